@@ -1,0 +1,61 @@
+-- `sum_of_squares` meets its contract. The invariant: the sum is that of the first i squares. Assumes nothing.
+use Prim.Native.Nat.{_+_, _-_, _≤_}
+use native.Mathlib.Omega.{arith}
+use mathlib.Core.Path.{_≡_}
+use lib.Ieee.{binary64}
+use Rattle.arithmetic.specs.Matrix.{item}
+use Rattle.arithmetic.specs.Product.{dot}
+use Rattle.arithmetic.proofs.ProductLaws.{dot-none, dot-more}
+use Rattle.arithmetic.proofs.NormLaws.{squares-part}
+use Rattle.arithmetic.proofs.norm.sum_of_squares.Statement.{statement}
+use Rattle.arithmetic.proofs.norm.sum_of_squares.Tie as tie
+
+abbrev Inv-loop : tie.InvT-loop
+Inv-loop w x k sum₀ i₀ sum i = (i ≤ k) × (sum ≡ dot binary64 i (λ q. item w (x + q)) (λ q. item w (x + q)))
+
+abbrev μ-loop : tie.MeasureT-loop
+μ-loop w x k sum₀ i₀ sum i = k - i
+
+loop-holds : tie.Need-loop-holds Inv-loop μ-loop
+loop-holds c = (omega arith, dot-none binary64 _ _)
+
+add-v : tie.Need-add-v Inv-loop μ-loop
+add-v c = omega arith
+
+mul-v : tie.Need-mul-v Inv-loop μ-loop
+mul-v c = omega arith
+
+shared-slice-read-v : tie.Need-shared-slice-read-v Inv-loop μ-loop
+shared-slice-read-v c = omega arith
+
+add-i : tie.Need-add-i Inv-loop μ-loop
+add-i c = omega arith
+
+loop-less : tie.Need-loop-less Inv-loop μ-loop
+loop-less c = omega arith
+
+loop-again : tie.Need-loop-again Inv-loop μ-loop
+loop-again c =
+    let l = c .before .before .loop in
+    (omega arith, rw (l .inv .1, dot-more))
+
+returns : tie.Need-returns Inv-loop μ-loop
+returns c =
+    let a = c .before .before .args in
+    let e : c .before .loop .i ≡ a .k = omega arith in
+    rw (squares-part binary64 (a .k) (a .w .now) (a .x)) (rw e at (c .before .loop .inv .1))
+
+pub sum-of-squares-spec : {M : Type 1} → statement M
+sum-of-squares-spec =
+    tie.close
+    (tie.spec
+    Inv-loop
+    μ-loop
+    loop-holds
+    add-v
+    mul-v
+    shared-slice-read-v
+    add-i
+    loop-less
+    loop-again
+    returns)

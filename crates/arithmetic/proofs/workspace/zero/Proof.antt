@@ -1,0 +1,78 @@
+-- `zero` meets its contract. The invariant: the first k entries are +0, and nothing else is changed. Assumes nothing.
+use Prim.Native.Nat.{_+_, _-_, _*_, _≤_}
+use native.Mathlib.Omega.{arith}
+use mathlib.Core.Path.{_≡_, refl}
+use lib.ListN.{length, length-set}
+use lib.Ieee.{binary64}
+use Rattle.arithmetic.specs.Float.{+zero}
+use Rattle.arithmetic.specs.Matrix.{tab, put}
+use Rattle.arithmetic.specs.Product.{zeroM}
+use Rattle.arithmetic.specs.Workspace.{slot, store}
+use Rattle.arithmetic.proofs.MatrixLaws.{square-le}
+use Rattle.arithmetic.proofs.PartLaws.{put-none, put-store}
+use Rattle.arithmetic.proofs.ProductLaws.{+zero-bits}
+use Rattle.arithmetic.proofs.workspace.zero.Statement.{statement}
+use Rattle.arithmetic.proofs.workspace.zero.Tie as tie
+
+abbrev Inv-loop : tie.InvT-loop
+Inv-loop w₀ a n x m k₀ w k = (m ≤ 256) × (k ≤ m) × (length w ≡ length w₀) × (w ≡ put w₀ x (tab k (λ i. +zero)))
+
+abbrev μ-loop : tie.MeasureT-loop
+μ-loop w₀ a n x m k₀ w k = m - k
+
+mul-x : tie.Need-mul-x Inv-loop μ-loop
+mul-x c = omega arith
+
+mul-m : tie.Need-mul-m Inv-loop μ-loop
+mul-m c = omega (arith, square-le (c .args .n) (c .pre .0 .order))
+
+loop-holds : tie.Need-loop-holds Inv-loop μ-loop
+loop-holds c = (square-le (c .args .n) (c .pre .0 .order), omega arith, refl, put-none _ _ _)
+
+add-w : tie.Need-add-w Inv-loop μ-loop
+add-w c = omega arith
+
+mul-w : tie.Need-mul-w Inv-loop μ-loop
+mul-w c = omega arith
+
+slice-write-w : tie.Need-slice-write-w Inv-loop μ-loop
+slice-write-w c = omega arith
+
+add-k : tie.Need-add-k Inv-loop μ-loop
+add-k c = omega arith
+
+loop-less : tie.Need-loop-less Inv-loop μ-loop
+loop-less c = omega arith
+
+loop-again : tie.Need-loop-again Inv-loop μ-loop
+loop-again c =
+    let l = c .before .loop in
+    (l .inv .0, omega arith, simp length-set (l .inv .2), rw (l .inv .3) (put-store _ _ _ (λ i. +zero) _ (+zero-bits binary64)))
+
+same-length : tie.Need-same-length Inv-loop μ-loop
+same-length c = omega arith
+
+returns : tie.Need-returns Inv-loop μ-loop
+unfolding slot store zeroM
+returns c =
+    let a = c .before .before .args in
+    let e : c .before .loop .k ≡ a .n * a .n = omega arith in
+    rw e at (c .before .loop .inv .3)
+
+pub zero-spec : {M : Type 1} → statement M
+zero-spec =
+    tie.close
+    (tie.spec
+    Inv-loop
+    μ-loop
+    mul-x
+    mul-m
+    loop-holds
+    add-w
+    mul-w
+    slice-write-w
+    add-k
+    loop-less
+    loop-again
+    same-length
+    returns)

@@ -1,0 +1,10 @@
+pub mod Float
+pub mod Root
+pub mod Matrix
+pub mod Product
+pub mod Norm
+pub mod Workspace
+pub mod Finite
+pub mod Result
+pub mod Questions
+pub mod Answers

@@ -1,0 +1,8 @@
+// Floats, matrices of floats row by row in one slice, and the workspace that matrices stand in.
+pub mod answer;
+pub mod float;
+pub mod matrix;
+pub mod norm;
+pub mod product;
+pub mod root;
+pub mod workspace;

@@ -1,0 +1,14 @@
+-- `flip` meets its contract. Assumes nothing.
+use Prim.Native.Nat.{_%_}
+use borrow.Author.Tests.{eq-eqb, ne-eqb}
+use Rattle.functions.proofs.exponential.flip.Statement.{statement}
+use Rattle.functions.proofs.exponential.flip.Tie as tie
+
+returns : tie.Need-returns
+returns c = rw (eq-eqb (c .before .args .k % 2) 0 (c .if1 .taken))
+
+returns-2 : tie.Need-returns-2
+returns-2 c = rw (ne-eqb (c .before .args .k % 2) 0 (c .if1 .left))
+
+pub flip-spec : {M : Type 1} → statement M
+flip-spec = tie.close (tie.spec returns returns-2)

@@ -1,0 +1,73 @@
+-- `copy_quarter` meets its contract. The invariant: the rows of `out` below i are those of the quarter. The measure is what is left of the rows.
+-- Assumes nothing.
+use Prim.Native.Nat.{_+_, _*_, _-_, _≤_}
+use mathlib.Core.Path.{_≡_, refl, ap, _∙_}
+use native.Mathlib.Omega.{arith}
+use borrow.Author.Needs.{needs}
+use lib.ListN.{length}
+use Rattle.arithmetic.specs.Matrix.{rowsTo, withRow}
+use Rattle.arithmetic.proofs.PatchLaws.{length-rowsTo, rows-none, rows-more, rows-all}
+use Rattle.functions.specs.Exponential.{quarterRow, quarter}
+use Rattle.functions.proofs.frechet.copy_quarter.Statement.{statement}
+use Rattle.functions.proofs.frechet.copy_quarter.Tie as tie
+
+abbrev Inv-loop : tie.InvT-loop
+Inv-loop b n c out₀ i₀ out i = (i ≤ n) × (length out ≡ n * n) × (out ≡ rowsTo n (quarterRow n c b) out₀ i)
+
+abbrev μ-loop : tie.MeasureT-loop
+μ-loop b n c out₀ i₀ out i = n - i
+
+loop-holds : tie.Need-loop-holds Inv-loop μ-loop
+loop-holds c =
+    let s = c .before .before in
+    let a = s .args in
+    (omega arith, s .pre .3, rows-none (a .n) (quarterRow (a .n) (a .c) (a .b .now)) (a .out .now))
+
+quarter-row-requires : tie.Need-quarter-row-requires Inv-loop μ-loop
+quarter-row-requires c κs = search needs
+
+add-i : tie.Need-add-i Inv-loop μ-loop
+add-i c = search needs
+
+loop-less : tie.Need-loop-less Inv-loop μ-loop
+loop-less c = search needs
+
+loop-again : tie.Need-loop-again Inv-loop μ-loop
+loop-again c =
+    let row = c .before .before in
+    let turn = row .before .before in
+    let l = turn .before .loop in
+    let s = turn .before .before .before .before in
+    let a = s .args in
+    let F = quarterRow (a .n) (a .c) (a .b .now) in
+    let e =
+    row .quarter-row .ensures
+    ∙ ap (withRow (a .n) (l .i) (F (l .i))) (l .inv .2)
+    ∙ rows-more (a .n) F (a .out .now) (F (l .i)) (l .i) (λ k h. refl) in
+    (omega arith, ap length e ∙ length-rowsTo (a .n) F (a .out .now) (l .i + 1) ∙ s .pre .3, e)
+
+same-length : tie.Need-same-length Inv-loop μ-loop
+same-length c = omega arith
+
+returns : tie.Need-returns Inv-loop μ-loop
+unfolding quarter
+returns c =
+    let l = c .before .loop in
+    let s = c .before .before .before .before in
+    let a = s .args in
+    let e : l .i ≡ a .n = omega arith in
+    l .inv .2 ∙ ap (rowsTo (a .n) (quarterRow (a .n) (a .c) (a .b .now)) (a .out .now)) e ∙ rows-all (a .n) (quarterRow (a .n) (a .c) (a .b .now)) (a .out .now) (a .n) (s .pre .3)
+
+pub copy-quarter-spec : {M : Type 1} → statement M
+copy-quarter-spec =
+    tie.close
+    (tie.spec
+    Inv-loop
+    μ-loop
+    loop-holds
+    quarter-row-requires
+    add-i
+    loop-less
+    loop-again
+    same-length
+    returns)

@@ -1,0 +1,124 @@
+-- `quarter_row` meets its contract. The invariant: row i of `out` has its new entries in the columns below j. The measure is what is left of the columns.
+-- Assumes nothing.
+use Prim.Native.Nat.{ℕ, _+_, _*_, _-_, _≤_, _<_}
+use mathlib.Core.Path.{_≡_, ap, _∙_}
+use mathlib.Core.List.{List}
+use native.Mathlib.Omega.{arith}
+use lib.ListN.{length, set}
+use lib.Ieee.{Float}
+use Rattle.arithmetic.specs.Matrix.{at, rowTo, withRow}
+use Rattle.arithmetic.proofs.MatrixLaws.{index-lt}
+use Rattle.arithmetic.proofs.PatchLaws.{length-rowTo, row-none, row-more}
+use Rattle.functions.specs.Exponential.{quarterRow}
+use Rattle.functions.proofs.frechet.quarter_row.Statement.{statement}
+use Rattle.functions.proofs.frechet.quarter_row.Tie as tie
+use Rattle.functions.proofs.frechet.quarter_row.Reads as reads
+use Rattle.functions.proofs.frechet.quarter_row.Lts as lts
+
+abbrev Inv-loop : tie.InvT-loop
+Inv-loop b n c i out₀ j₀ out j = (j ≤ n) × (out ≡ rowTo n i (quarterRow n c b i) out₀ j)
+
+abbrev μ-loop : tie.MeasureT-loop
+μ-loop b n c i out₀ j₀ out j = n - j
+
+inside : (n c i j : ℕ) → i < n → c ≤ n → j < n → i * (n + n) + (c + j) < (n + n) * (n + n)
+inside n c i j p q r = index-lt (omega arith) (omega arith)
+
+-- the places that are read and written
+read-at : (l : lts.In-loop reads.Pre reads.Post Inv-loop μ-loop)
+    → l .before .before .args .i * (l .before .before .args .n + l .before .before .args .n) + (l .before .before .args .c + l .before .loop .j)
+    < (l .before .before .args .n + l .before .before .args .n) * (l .before .before .args .n + l .before .before .args .n)
+read-at l =
+    let s = l .before .before in
+    inside (s .args .n) (s .args .c) (s .args .i) (l .before .loop .j) (s .pre .0) (s .pre .2) (omega arith)
+
+write-at : (l : lts.In-loop reads.Pre reads.Post Inv-loop μ-loop)
+    → l .before .before .args .i * l .before .before .args .n + l .before .loop .j < l .before .before .args .n * l .before .before .args .n
+write-at l = index-lt (l .before .before .pre .0) (omega arith)
+
+loop-holds : tie.Need-loop-holds Inv-loop μ-loop
+loop-holds c = (omega arith, row-none (c .args .n) (c .args .i) (quarterRow (c .args .n) (c .args .c) (c .args .b .now) (c .args .i)) (c .args .out .now))
+
+add-out : tie.Need-add-out Inv-loop μ-loop
+add-out c = omega arith
+
+mul-out : tie.Need-mul-out Inv-loop μ-loop
+mul-out c = omega (arith, read-at c)
+
+add-out-2 : tie.Need-add-out-2 Inv-loop μ-loop
+add-out-2 c = omega arith
+
+add-out-3 : tie.Need-add-out-3 Inv-loop μ-loop
+add-out-3 c = omega (arith, read-at c)
+
+mul-out-2 : tie.Need-mul-out-2 Inv-loop μ-loop
+mul-out-2 c = omega (arith, read-at c)
+
+shared-slice-read-out : tie.Need-shared-slice-read-out Inv-loop μ-loop
+shared-slice-read-out c = omega (arith, read-at (c .before))
+
+mul-out-3 : tie.Need-mul-out-3 Inv-loop μ-loop
+mul-out-3 c = omega (arith, write-at (c .before))
+
+add-out-4 : tie.Need-add-out-4 Inv-loop μ-loop
+add-out-4 c = omega (arith, write-at (c .before))
+
+mul-out-4 : tie.Need-mul-out-4 Inv-loop μ-loop
+mul-out-4 c = omega (arith, write-at (c .before))
+
+slice-write-out : tie.Need-slice-write-out Inv-loop μ-loop
+slice-write-out c =
+    let l = c .before .before .loop in
+    let s = c .before .before .before in
+    omega (arith, write-at (c .before), ap length (l .inv .1), length-rowTo (s .args .n) (s .args .i) (quarterRow (s .args .n) (s .args .c) (s .args .b .now) (s .args .i)) (s .args .out .now) (l .j))
+
+add-j : tie.Need-add-j Inv-loop μ-loop
+add-j c = omega arith
+
+loop-less : tie.Need-loop-less Inv-loop μ-loop
+loop-less c = omega arith
+
+loop-again : tie.Need-loop-again Inv-loop μ-loop
+loop-again c =
+    let l = c .before .before .loop in
+    let s = c .before .before .before in
+    let a = s .args in
+    let h = quarterRow (a .n) (a .c) (a .b .now) (a .i) in
+    (omega arith, unfold quarterRow at in (ap (λ (x : List Float). set x (a .i * a .n + l .j) (h (l .j))) (l .inv .1) ∙ row-more (a .n) (a .i) h (a .out .now) (l .j) (omega (arith, write-at (c .before)))))
+
+same-length : tie.Need-same-length Inv-loop μ-loop
+same-length c =
+    let l = c .before .loop in
+    let a = c .before .before .args in
+    ap length (l .inv .1) ∙ length-rowTo (a .n) (a .i) (quarterRow (a .n) (a .c) (a .b .now) (a .i)) (a .out .now) (l .j)
+
+returns : tie.Need-returns Inv-loop μ-loop
+unfolding withRow
+returns c =
+    let l = c .before .loop in
+    let a = c .before .before .args in
+    let e : l .j ≡ a .n = omega arith in
+    l .inv .1 ∙ ap (rowTo (a .n) (a .i) (quarterRow (a .n) (a .c) (a .b .now) (a .i)) (a .out .now)) e
+
+pub quarter-row-spec : {M : Type 1} → statement M
+quarter-row-spec =
+    tie.close
+    (tie.spec
+    Inv-loop
+    μ-loop
+    loop-holds
+    add-out
+    mul-out
+    add-out-2
+    add-out-3
+    mul-out-2
+    shared-slice-read-out
+    mul-out-3
+    add-out-4
+    mul-out-4
+    slice-write-out
+    add-j
+    loop-less
+    loop-again
+    same-length
+    returns)

@@ -1,0 +1,69 @@
+-- `back` meets its contract. The invariant: the last n - k columns are done. The measure is k.
+-- Assumes nothing.
+use Prim.Native.Nat.{_≤_, _-_}
+use mathlib.Core.Path.{_≡_, ap, _∙_}
+use lib.ListN.{length}
+use lib.Ieee.{binary64}
+use Rattle.lu.proofs.SolveLaws.{length-backStep, back-turn}
+use native.Mathlib.Omega.{arith}
+use borrow.Author.Needs.{needs}
+use Rattle.lu.proofs.solve.back.Statement.{statement}
+use Rattle.lu.proofs.solve.back.Tie as tie
+
+abbrev Inv-loop : tie.InvT-loop
+Inv-loop f n x₀ k₀ x k = (k ≤ n) × (length x ≡ n) × (x ≡ Rattle.lu.specs.Solve.back binary64 n f x₀ (n - k))
+
+abbrev μ-loop : tie.MeasureT-loop
+μ-loop f n x₀ k₀ x k = k
+
+loop-holds : tie.Need-loop-holds Inv-loop μ-loop
+unfolding Rattle.lu.specs.Solve.back
+loop-holds c =
+    let s = c .before .before in
+    let e : s .args .n - s .args .n ≡ 0 = omega arith in
+    (omega arith, s .pre .1, rw e)
+
+sub-k : tie.Need-sub-k Inv-loop μ-loop
+sub-k c = search needs
+
+back-step-requires : tie.Need-back-step-requires Inv-loop μ-loop
+back-step-requires c κs = search needs
+
+loop-less : tie.Need-loop-less Inv-loop μ-loop
+loop-less c = search needs
+
+loop-again : tie.Need-loop-again Inv-loop μ-loop
+loop-again c =
+    let row = c .before .before in
+    let turn = row .before .before in
+    let l = turn .before .loop in
+    let s = turn .before .before .before .before in
+    let a = s .args in (
+      omega arith,
+      ap length (row .back-step .ensures) ∙ length-backStep binary64 (a .n) (a .f .now) (l .k - 1) (l .x),
+      back-turn binary64 (a .n) (a .f .now) (a .x .now) (l .x) (row .back-step .last .1 .1 .1 .0) (l .k) (turn .loop-test .taken) (l .inv .0) (l .inv .2) (row .back-step .ensures),
+    )
+
+same-length : tie.Need-same-length Inv-loop μ-loop
+same-length c = search needs
+
+returns : tie.Need-returns Inv-loop μ-loop
+returns c =
+    let l = c .before .loop in
+    let a = c .before .before .before .before .args in
+    let e : a .n - l .k ≡ a .n = omega arith in
+    l .inv .2 ∙ ap (Rattle.lu.specs.Solve.back binary64 (a .n) (a .f .now) (a .x .now)) e
+
+pub back-spec : {M : Type 1} → statement M
+back-spec =
+    tie.close
+    (tie.spec
+    Inv-loop
+    μ-loop
+    loop-holds
+    sub-k
+    back-step-requires
+    loop-less
+    loop-again
+    same-length
+    returns)

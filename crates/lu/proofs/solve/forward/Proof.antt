@@ -1,0 +1,66 @@
+-- `forward` meets its contract. The invariant: the first k columns are done. The measure is what is left of the columns.
+-- Assumes nothing.
+use Prim.Native.Nat.{_≤_, _-_}
+use mathlib.Core.Path.{_≡_, refl, ap, _∙_}
+use lib.ListN.{length}
+use lib.Ieee.{binary64}
+use Rattle.lu.proofs.SolveLaws.{length-forwardStep, forward-turn}
+use native.Mathlib.Omega.{arith}
+use borrow.Author.Needs.{needs}
+use Rattle.lu.proofs.solve.forward.Statement.{statement}
+use Rattle.lu.proofs.solve.forward.Tie as tie
+
+abbrev Inv-loop : tie.InvT-loop
+Inv-loop f n x₀ k₀ x k = (k ≤ n) × (length x ≡ n) × (x ≡ Rattle.lu.specs.Solve.forward binary64 n f x₀ k)
+
+abbrev μ-loop : tie.MeasureT-loop
+μ-loop f n x₀ k₀ x k = n - k
+
+loop-holds : tie.Need-loop-holds Inv-loop μ-loop
+unfolding Rattle.lu.specs.Solve.forward
+loop-holds c = (omega arith, c .before .before .pre .1, refl)
+
+forward-step-requires : tie.Need-forward-step-requires Inv-loop μ-loop
+forward-step-requires c κs = search needs
+
+add-k : tie.Need-add-k Inv-loop μ-loop
+add-k c = search needs
+
+loop-less : tie.Need-loop-less Inv-loop μ-loop
+loop-less c = search needs
+
+loop-again : tie.Need-loop-again Inv-loop μ-loop
+loop-again c =
+    let row = c .before .before in
+    let turn = row .before .before in
+    let l = turn .before .loop in
+    let s = turn .before .before .before .before in
+    let a = s .args in (
+      omega arith,
+      ap length (row .forward-step .ensures) ∙ length-forwardStep binary64 (a .n) (a .f .now) (l .k) (l .x),
+      forward-turn binary64 (a .n) (a .f .now) (a .x .now) (l .x) (row .forward-step .last .1 .1 .1 .0) (l .k) (l .inv .2) (row .forward-step .ensures),
+    )
+
+same-length : tie.Need-same-length Inv-loop μ-loop
+same-length c = search needs
+
+returns : tie.Need-returns Inv-loop μ-loop
+returns c =
+    let l = c .before .loop in
+    let a = c .before .before .before .before .args in
+    let e : l .k ≡ a .n = omega arith in
+    l .inv .2 ∙ ap (Rattle.lu.specs.Solve.forward binary64 (a .n) (a .f .now) (a .x .now)) e
+
+pub forward-spec : {M : Type 1} → statement M
+forward-spec =
+    tie.close
+    (tie.spec
+    Inv-loop
+    μ-loop
+    loop-holds
+    forward-step-requires
+    add-k
+    loop-less
+    loop-again
+    same-length
+    returns)
