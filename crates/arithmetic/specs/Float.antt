@@ -2,7 +2,7 @@
 use Prim.Native.Nat.{ℕ, zero, suc, _+_, _-_, _*_, _/_, _^_, _≤_, _<_}
 use mathlib.Core.Bool.{Bool, false, cond}
 use lib.IntN.{ℤ, pos, negsuc}
-use lib.Ieee.{Float, nan, inf, fin, Format, prec, minus, size, round, sub, lt, toSigned}
+use lib.Ieee.{Float, nan, inf, fin, Format, binary32, binary64, prec, up, down, minus, size, round, sub, lt, toSigned}
 use lib.Ieee.Positive.{num, den}
 
 -- +0 and 1
@@ -11,6 +11,17 @@ abbrev pub +zero : Float
 
 abbrev pub one : Float
 one = fin false 1 (pos 0)
+
+abbrev pub half : Float
+half = fin false 1 (negsuc 0)
+
+-- the binary64 number x in the format f
+unfoldable pub constant : Format → Float → Float
+unfolding round
+constant binary64 x = x
+constant binary32 nan = nan
+constant binary32 (inf s) = inf s
+constant binary32 (fin s m e) = round binary32 s (m * up e) (down e)
 
 -- the distance from 1 to the next number, 2 ^ (1 - prec): 2^-52 for binary64
 abbrev pub epsilon : Format → Float

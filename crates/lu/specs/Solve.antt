@@ -4,13 +4,15 @@
 use Prim.Native.Nat.{ℕ, zero, suc, _+_, _-_, _*_, _%_}
 use mathlib.Core.Bool.{true, cond}
 use mathlib.Core.List.{List}
+use mathlib.Core.Option.{Option, none, some}
 use lib.Dec.{ltb, eqb}
 use lib.ListN.{getD}
 use lib.IntN.{pos}
 use lib.Ieee.{Float, fin, Format, mul, sub, div}
 use Rattle.arithmetic.specs.Float.{one}
 use Rattle.arithmetic.specs.Matrix.{tab, at, grid, part, item, put, column}
-use Rattle.lu.specs.Lu.{exchange, luAt, luFactors, luPivots}
+use Rattle.arithmetic.specs.Product.{identityM}
+use Rattle.lu.specs.Lu.{exchange, luAt, luOutcome, luFactors, luPivots}
 use Rattle.lu.specs.declared.LuOutcome.{LuOutcome}
 use Rattle.lu.specs.declared.LuOutcome.the-variants.{Factored, Singular}
 
@@ -99,6 +101,19 @@ solution f n d b j = solved f n (luFactors f n d) (luPivots f n d) (column n n b
 unfoldable pub quotient : Format → ℕ → List Float → List Float → List Float
 unfolding solvedMatrix
 quotient f n d b = solvedMatrix f n n (luFactors f n d) (luPivots f n d) b
+
+-- where LU accepts the matrix
+abbrev pub whereFactored : {A : Type 0} → LuOutcome → A → Option A
+whereFactored Factored x = some x
+whereFactored (Singular k) x = none
+
+-- d x = b for a matrix b: nothing where LU refuses d
+unfoldable pub division : Format → ℕ → List Float → List Float → Option (List Float)
+division f n d b = whereFactored (luOutcome f n d) (quotient f n d b)
+
+-- the inverse is the quotient of the identity
+unfoldable pub inverse : Format → ℕ → List Float → Option (List Float)
+inverse f n a = division f n a (identityM n)
 
 -- ---- a system in a workspace
 

@@ -1,0 +1,67 @@
+-- What each public call of LU gives, as a function of all that it is given. Definitions only.
+use Prim.Native.Nat.{ℕ}
+use mathlib.Core.List.{List, [], _∷_}
+use lib.Ieee.{Float, Format}
+use Rattle.arithmetic.specs.Float.{+zero}
+use Rattle.arithmetic.specs.Result.{Result, refused, done}
+use Rattle.arithmetic.specs.Questions.{answer, ofCompute, ofSolve, ofDeterminant}
+use Rattle.lu.specs.Lu.{luOutcome, luFactors, luPivots}
+use Rattle.lu.specs.Solve.{solvedMatrix, determinantOf}
+use Rattle.lu.specs.declared.LuOutcome.{LuOutcome}
+use Rattle.lu.specs.declared.LuOutcome.the-variants.{Factored, Singular}
+
+-- the outputs of `compute`
+pub record Factorisation : Type 0 where
+  pub factors : List Float
+  pub pivotRows : List ℕ
+
+-- question 14: every column passes the pivot test
+abbrev pub factorised : LuOutcome → Factorisation → Result Factorisation
+factorised Factored l = done 0 l
+factorised (Singular k) l = refused 14 k 0
+
+-- `compute`: rows, columns, the matrix, the lent pivots, the lengths of the lent factors and of the workspace
+unfoldable pub compute : Format → ℕ → ℕ → List Float → List ℕ → ℕ → ℕ → Result Factorisation
+compute f r c a ps out w = answer ofCompute (record {
+  rows = r;
+  columns = c;
+  matrix = a;
+  companionRows = 0;
+  companionColumns = 0;
+  companion = [];
+  exponent = +zero;
+  pivots = ps;
+  outputs = out ∷ [];
+  room = w;
+})
+    (factorised (luOutcome f r a) (record { factors = luFactors f r a; pivotRows = luPivots f r a }))
+
+-- `solve`: rows, columns, factors, pivots, the right-hand matrix with its rows and columns, the length of the lent solution
+unfoldable pub solve : Format → ℕ → ℕ → List Float → List ℕ → ℕ → ℕ → List Float → ℕ → Result (List Float)
+solve f r c F ps r' c' b out = answer ofSolve (record {
+  rows = r;
+  columns = c;
+  matrix = F;
+  companionRows = r';
+  companionColumns = c';
+  companion = b;
+  exponent = +zero;
+  pivots = ps;
+  outputs = out ∷ [];
+  room = 0;
+}) (done 0 (solvedMatrix f r c' F ps b))
+
+-- `determinant`: rows, columns, factors, pivots
+unfoldable pub determinant : Format → ℕ → ℕ → List Float → List ℕ → Result Float
+determinant f r c F ps = answer ofDeterminant (record {
+  rows = r;
+  columns = c;
+  matrix = F;
+  companionRows = 0;
+  companionColumns = 0;
+  companion = [];
+  exponent = +zero;
+  pivots = ps;
+  outputs = [];
+  room = 0;
+}) (done 0 (determinantOf f r F ps))
