@@ -5,12 +5,15 @@ use lib.IntN.{ℤ, pos, negsuc}
 use lib.Ieee.{Float, nan, inf, fin, Format, prec, minus, size, round, sub, lt, toSigned}
 use lib.Ieee.Positive.{num, den}
 
--- +0 and 1
+-- +0, 1 and a half
 abbrev pub +zero : Float
 +zero = fin false 0 (pos 0)
 
 abbrev pub one : Float
 one = fin false 1 (pos 0)
+
+abbrev pub half : Float
+half = fin false 1 (negsuc 0)
 
 -- the distance from 1 to the next number, 2 ^ (1 - prec): 2^-52 for binary64
 abbrev pub epsilon : Format → Float
