@@ -14,7 +14,7 @@ use lib.Ieee.Fits.{add-fits, mul-fits}
 use lib.Ieee.Bits.{is-false}
 use Rattle.arithmetic.specs.Float.{one, +zero}
 use Rattle.arithmetic.specs.Matrix.{at, item}
-use Rattle.arithmetic.specs.Product.{dot, mulM, scaleM, unitEntry, identityM, squared}
+use Rattle.arithmetic.specs.Product.{dot, mulM, scaleM, diagonalEntry, diagonalM, identityM, squared}
 use Rattle.arithmetic.specs.Finite.{FiniteProduct, Fin}
 use Rattle.arithmetic.proofs.Order.{split}
 use Rattle.arithmetic.proofs.Zero.{Zero, Plus, Fits, zero-fits, plus-of-positive, add-zero-right, add-plus, mul-zero-left, mul-zero-right}
@@ -84,13 +84,13 @@ module _ (f : Format) (n N : ℕ) (n≤N : n ≤ N) where
       apart e = omega arith
 
   pub identity-corner : Corner n N (identityM n) (identityM N)
-  unfolding identityM unitEntry
+  unfolding identityM diagonalM diagonalEntry
   identity-corner = record {
     same = λ i j I J.
-        at-grid N N unitEntry i j (lt-of-lt-of-le I n≤N) (lt-of-lt-of-le J n≤N)
-        ∙ sym (at-grid n n unitEntry i j I J);
+        at-grid N N (diagonalEntry one) i j (lt-of-lt-of-le I n≤N) (lt-of-lt-of-le J n≤N)
+        ∙ sym (at-grid n n (diagonalEntry one) i j I J);
     below = λ i j l u J.
-        (false, at-grid N N unitEntry i j u (lt-of-lt-of-le J n≤N) ∙ ap (λ (b : Bool). cond b one +zero) (not-same i j l J));
+        (false, at-grid N N (diagonalEntry one) i j u (lt-of-lt-of-le J n≤N) ∙ ap (λ (b : Bool). cond b one +zero) (not-same i j l J));
   }
 
   -- ---- scaling and squaring

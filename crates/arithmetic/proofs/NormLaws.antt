@@ -2,17 +2,17 @@
 use Prim.Native.Nat.{ℕ, zero, suc, _+_, _*_, _<_}
 use native.Mathlib.Numerals.{add-one}
 use native.Mathlib.Omega.{arith}
-use mathlib.Core.Path.{_≡_, refl, ap}
+use mathlib.Core.Path.{_≡_, refl, _∙_, ap}
 use mathlib.Core.List.{List}
 use lib.ListN.{getD}
-use lib.Ieee.{Float, Format, nan, add, sub, ofBits}
+use lib.Ieee.{Float, Format, nan, add, ofBits}
 use Rattle.arithmetic.specs.Float.{magnitude, larger}
-use Rattle.arithmetic.specs.Matrix.{part, tab, item}
-use Rattle.arithmetic.specs.Product.{dot, subM, sum}
+use Rattle.arithmetic.specs.Matrix.{part, tab, grid, item}
+use Rattle.arithmetic.specs.Product.{dot, sum, minusIdentityEntry, minusIdentityM}
 use Rattle.arithmetic.specs.Norm.{sumOfMagnitudes, largest, norm1, sumOfSquares, trace}
-use Rattle.arithmetic.proofs.MatrixLaws.{getD-tab, tab-cong}
-use Rattle.arithmetic.proofs.PartLaws.{at-part, getD-part}
-use Rattle.arithmetic.proofs.ProductLaws.{+zero-bits, sum-none, sum-more, sum-cong, dot-cong}
+use Rattle.arithmetic.proofs.MatrixLaws.{getD-tab, at-grid}
+use Rattle.arithmetic.proofs.PartLaws.{at-part}
+use Rattle.arithmetic.proofs.ProductLaws.{+zero-bits, sum-none, sum-more, sum-cong, dot-cong, minusIdentityM-part}
 
 -- ---- sums of magnitudes
 
@@ -48,6 +48,15 @@ pub norm1-part : (f : Format) (n : ℕ) (w : List Float) (x : ℕ) → norm1 f n
 unfolding norm1
 norm1-part f n w x = largest-cong n _ _ (λ j hj. magnitudes-cong f n _ _ (λ i hi. at-part w x n n i j hi hj))
 
+-- the 1-norm of a matrix that is given by its entries
+norm1-grid : (f : Format) (n : ℕ) (g : ℕ → ℕ → Float) → norm1 f n (grid n n g) ≡ largest n (λ j. sumOfMagnitudes f n (λ i. g i j))
+unfolding norm1
+norm1-grid f n g = largest-cong n _ _ (λ j hj. magnitudes-cong f n _ _ (λ i hi. at-grid n n g i j hi hj))
+
+-- and of one that lies in a list, less the identity
+pub norm1-minusIdentity : (f : Format) (n : ℕ) (w : List Float) (x : ℕ) → norm1 f n (minusIdentityM f n (part w x (n * n))) ≡ largest n (λ j. sumOfMagnitudes f n (λ i. minusIdentityEntry f i j (item w (x + (i * n + j)))))
+norm1-minusIdentity f n w x = ap (norm1 f n) (minusIdentityM-part f n w x) ∙ norm1-grid f n _
+
 -- ---- sums of squares
 
 -- the sum of the squares of a table's numbers
@@ -58,11 +67,6 @@ squares-tab f k g = dot-cong f k (item (tab k g)) (item (tab k g)) g g (λ i h. 
 pub squares-part : (f : Format) (k : ℕ) (w : List Float) (x : ℕ) → sumOfSquares f k (part w x k) ≡ dot f k (λ i. item w (x + i)) (λ i. item w (x + i))
 unfolding part
 squares-part f k w x = squares-tab f k (λ i. item w (x + i))
-
--- the difference of two matrices that lie in a list
-pub subM-parts : (f : Format) (n : ℕ) (w : List Float) (x y : ℕ) → subM f n (part w x (n * n)) (part w y (n * n)) ≡ tab (n * n) (λ k. sub f (item w (x + k)) (item w (y + k)))
-unfolding subM
-subM-parts f n w x y = tab-cong (n * n) _ _ (λ k h i. sub f (getD-part w x (n * n) k h i) (getD-part w y (n * n) k h i))
 
 -- ---- the trace
 

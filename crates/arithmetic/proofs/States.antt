@@ -11,10 +11,10 @@ use lib.ListN.{length}
 use borrow.Author.Tests.{leb-true, eqb-true, ne-eqb}
 use lib.Ieee.{Float, Format}
 use Rattle.arithmetic.specs.Matrix.{tab, part, Apart}
-use Rattle.arithmetic.specs.Product.{mulM, scaleM, identityM, accumulateM, zeroM}
+use Rattle.arithmetic.specs.Product.{mulM, scaleM, timesM, accumulateM, deductM, zeroM, addM, meanM, differenceQuotientM, diagonalM, identityM, minusIdentityM, transposeM}
 use Rattle.arithmetic.specs.Workspace.{slot, store, Room, member, Only}
 use Rattle.arithmetic.proofs.MatrixLaws.{square-le}
-use Rattle.arithmetic.proofs.ProductLaws.{length-mulM, length-scaleM, length-identityM, length-accumulateM, length-zeroM}
+use Rattle.arithmetic.proofs.ProductLaws.{length-mulM, length-scaleM, length-timesM, length-accumulateM, length-deductM, length-zeroM, length-addM, length-meanM, length-differenceQuotientM, length-diagonalM, length-identityM, length-minusIdentityM, length-transposeM}
 use Rattle.arithmetic.proofs.Slots.{length-slot, length-store, slot-store, slot-other, picks, only-refl, only-trans, only-more, only-run, slot-only}
 
 -- a matrix of an order, within so many slots from its first on
@@ -171,6 +171,37 @@ module _ {S : ℕ → Bool} {w₀ w w′ : List Float} {σ : ℕ → Held} (n : 
 
   pub step-zero : (c : ℕ) → State S w₀ w σ → w′ ≡ store w c (zeroM n) → leb (c + 1) 32 ≡ true → picks S c 1 ≡ true → State S w₀ w′ (upd σ c (held n (zeroM n)))
   step-zero c H e = step-one c (zeroM n) (zeroM n) H e refl (length-zeroM n)
+
+  pub step-times : (f : Format) (by : Float) (a c : ℕ) → State S w₀ w σ → w′ ≡ store w c (timesM f n by (slot n w a)) → σ a .order ≡ n
+      → leb (c + 1) 32 ≡ true → picks S c 1 ≡ true → State S w₀ w′ (upd σ c (held n (timesM f n by (σ a .entries))))
+  step-times f by a c H e u = step-one c (timesM f n by (slot n w a)) (timesM f n by (σ a .entries)) H e (λ i. timesM f n by (held-at a n H u i)) (length-timesM f n by (σ a .entries))
+
+  pub step-add : (f : Format) (c a : ℕ) → State S w₀ w σ → w′ ≡ store w c (addM f n (slot n w c) (slot n w a)) → σ c .order ≡ n → σ a .order ≡ n
+      → leb (c + 1) 32 ≡ true → picks S c 1 ≡ true → State S w₀ w′ (upd σ c (held n (addM f n (σ c .entries) (σ a .entries))))
+  step-add f c a H e u v = step-one c (addM f n (slot n w c) (slot n w a)) (addM f n (σ c .entries) (σ a .entries)) H e (λ i. addM f n (held-at c n H u i) (held-at a n H v i)) (length-addM f n (σ c .entries) (σ a .entries))
+
+  pub step-mean : (f : Format) (a b c : ℕ) → State S w₀ w σ → w′ ≡ store w c (meanM f n (slot n w a) (slot n w b)) → σ a .order ≡ n → σ b .order ≡ n
+      → leb (c + 1) 32 ≡ true → picks S c 1 ≡ true → State S w₀ w′ (upd σ c (held n (meanM f n (σ a .entries) (σ b .entries))))
+  step-mean f a b c H e u v = step-one c (meanM f n (slot n w a) (slot n w b)) (meanM f n (σ a .entries) (σ b .entries)) H e (λ i. meanM f n (held-at a n H u i) (held-at b n H v i)) (length-meanM f n (σ a .entries) (σ b .entries))
+
+  pub step-deduct : (f : Format) (by : Float) (c p : ℕ) → State S w₀ w σ → w′ ≡ store w c (deductM f n by (slot n w p) (slot n w c)) → σ p .order ≡ n → σ c .order ≡ n
+      → leb (c + 1) 32 ≡ true → picks S c 1 ≡ true → State S w₀ w′ (upd σ c (held n (deductM f n by (σ p .entries) (σ c .entries))))
+  step-deduct f by c p H e u v = step-one c (deductM f n by (slot n w p) (slot n w c)) (deductM f n by (σ p .entries) (σ c .entries)) H e (λ i. deductM f n by (held-at p n H u i) (held-at c n H v i)) (length-deductM f n by (σ p .entries) (σ c .entries))
+
+  pub step-difference-quotient : (f : Format) (h : Float) (c b : ℕ) → State S w₀ w σ → w′ ≡ store w c (differenceQuotientM f n h (slot n w c) (slot n w b)) → σ c .order ≡ n → σ b .order ≡ n
+      → leb (c + 1) 32 ≡ true → picks S c 1 ≡ true → State S w₀ w′ (upd σ c (held n (differenceQuotientM f n h (σ c .entries) (σ b .entries))))
+  step-difference-quotient f h c b H e u v = step-one c (differenceQuotientM f n h (slot n w c) (slot n w b)) (differenceQuotientM f n h (σ c .entries) (σ b .entries)) H e (λ i. differenceQuotientM f n h (held-at c n H u i) (held-at b n H v i)) (length-differenceQuotientM f n h (σ c .entries) (σ b .entries))
+
+  pub step-minus-identity : (f : Format) (a : ℕ) → State S w₀ w σ → w′ ≡ store w a (minusIdentityM f n (slot n w a)) → σ a .order ≡ n
+      → leb (a + 1) 32 ≡ true → picks S a 1 ≡ true → State S w₀ w′ (upd σ a (held n (minusIdentityM f n (σ a .entries))))
+  step-minus-identity f a H e u = step-one a (minusIdentityM f n (slot n w a)) (minusIdentityM f n (σ a .entries)) H e (λ i. minusIdentityM f n (held-at a n H u i)) (length-minusIdentityM f n (σ a .entries))
+
+  pub step-transpose : (a c : ℕ) → State S w₀ w σ → w′ ≡ store w c (transposeM n (slot n w a)) → σ a .order ≡ n
+      → leb (c + 1) 32 ≡ true → picks S c 1 ≡ true → State S w₀ w′ (upd σ c (held n (transposeM n (σ a .entries))))
+  step-transpose a c H e u = step-one c (transposeM n (slot n w a)) (transposeM n (σ a .entries)) H e (λ i. transposeM n (held-at a n H u i)) (length-transposeM n (σ a .entries))
+
+  pub step-diagonal : (d : Float) (c : ℕ) → State S w₀ w σ → w′ ≡ store w c (diagonalM n d) → leb (c + 1) 32 ≡ true → picks S c 1 ≡ true → State S w₀ w′ (upd σ c (held n (diagonalM n d)))
+  step-diagonal d c H e = step-one c (diagonalM n d) (diagonalM n d) H e refl (length-diagonalM n d)
 
 -- ---- a state that is known at some slots, as a loop's invariant lists them
 

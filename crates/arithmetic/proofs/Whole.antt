@@ -1,4 +1,4 @@
--- `roundAway` by the bits of a value and of its magnitude, over the format. Assumes nothing.
+-- A whole number as a value of the format, and `roundAway` by the bits of a value and of its magnitude. Assumes nothing.
 use mathlib.Core.Path.{_≡_, refl, sym, ap, _∙_, subst}
 use mathlib.Core.Logic.{_⊎_, inl, inr}
 use mathlib.Core.Bool.{Bool, true, false, not, cond}
@@ -8,12 +8,12 @@ use native.Mathlib.Omega.{arith}
 use lib.IntN.{ℤ, pos}
 use lib.Dec.{T, leb, ltb, eqb, le→leb, lt→ltb}
 use lib.Pow.{pow-pos}
-use lib.Ieee.{Float, nan, inf, fin, Format, prec, emax, low, up, down, size, nearest, odd, units, round, neg, ne, eq, fits, isNan, hid, ones, top, ofFields, toBits}
+use lib.Ieee.{Float, nan, inf, fin, Format, prec, emax, low, up, down, size, nearest, odd, units, round, neg, ne, eq, ofInt, fits, isNan, hid, ones, top, ofFields, toBits}
 use lib.Ieee.Bits.{is-true, ofBits-toBits}
 use lib.Ieee.Digits.{size-reaches}
 use lib.Ieee.Exact.{HasValue, round-exact}
 use lib.Ieee.Fits.{two, reach, round-fits, down-pos, kept-lt}
-use lib.Ieee.Back.{whole-unique}
+use lib.Ieee.Back.{round-whole, whole-unique}
 use Rattle.arithmetic.specs.Float.{magnitude, halfUp, roundAway}
 use Rattle.arithmetic.specs.Root.{count}
 use Rattle.arithmetic.proofs.Patterns.{toBits-of, twice-hid}
@@ -21,6 +21,12 @@ use Rattle.arithmetic.proofs.Reading.{ofBits-is}
 use Rattle.arithmetic.proofs.Counts.{Counted, counted, count-value, spaced}
 use Rattle.arithmetic.proofs.Zero.{zero-exp}
 use Rattle.arithmetic.proofs.Halves.{half-scale}
+
+-- ---- up to 2 ^ prec a whole number is a value of its own
+
+pub ofInt-exact : (f : Format) (n : ℕ) → n ≤ 2 ^ prec f → HasValue (ofInt f (pos n)) false n 1
+unfolding ofInt
+ofInt-exact f n h = round-whole f false n h
 
 -- ---- the sign goes through rounding
 

@@ -5,7 +5,7 @@ use lib.IntN.{ℤ, pos, negsuc}
 use lib.Ieee.{Float, nan, inf, fin, Format, binary32, binary64, prec, up, down, minus, size, round, sub, lt, toSigned}
 use lib.Ieee.Positive.{num, den}
 
--- +0 and 1
+-- +0, 1 and a half
 abbrev pub +zero : Float
 +zero = fin false 0 (pos 0)
 

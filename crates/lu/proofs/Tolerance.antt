@@ -3,17 +3,17 @@ use mathlib.Core.Path.{_≡_, refl, sym, ap, _∙_, subst}
 use mathlib.Core.Bool.{Bool, true, false, not, _&&_, _||_, cond, true≢false}
 use Prim.Native.Nat.{ℕ, zero, suc, _+_, _-_, _*_, _^_, _≤_, _<_}
 use native.Mathlib.Nat.{le-trans, le-of-eq, le-of-lt, mul-pos, mul-one, one-mul, mul-assoc, mul-comm, mul-le-mul-right}
-use lib.IntN.{negsuc}
+use lib.IntN.{pos, negsuc}
 use lib.Dec.{T, ltb, eqb, ltb→lt, eqb→eq}
 use lib.Pow.{pow-pos}
 use lib.Ieee.{Float, nan, inf, fin, Format, prec, emax, low, up, down, odd, units, round, mul, le, lt, eq, ofInt}
 use lib.Ieee.Fits.{down-pos, round-is}
 use lib.Ieee.Exact.{HasValue, odd-sign}
-use lib.Ieee.Back.{round-whole}
 use lib.Ieee.Scale.{round-same}
 use lib.Ieee.Order.{round-mono, le-of-values}
 use lib.Ieee.Positive.{through}
 use Rattle.arithmetic.specs.Float.{magnitude}
+use Rattle.arithmetic.proofs.Whole.{ofInt-exact}
 use Rattle.lu.specs.Lu.{tolerance}
 
 -- ---- values that are not negative: NaN and +∞ among them
@@ -89,8 +89,8 @@ tolerance-of f k n (fin false m e) v =
     (ap (λ (x : ℕ). x * 2 ^ suc k) (one-mul (m * up e) ∙ sym (mul-one (m * up e)) ∙ v .1) ∙ mul-assoc n (down e) (2 ^ suc k) ∙ ap (λ (x : ℕ). n * x) (mul-comm (down e) (2 ^ suc k)))
 
 pub tolerance-is : (f : Format) (n : ℕ) → n ≤ 2 ^ prec f → tolerance f n ≡ round f false n (2 ^ suc (prec f - 2))
-unfolding tolerance ofInt
-tolerance-is f n h = tolerance-of f (prec f - 2) n (round f false n 1) (round-whole f false n h)
+unfolding tolerance
+tolerance-is f n h = tolerance-of f (prec f - 2) n (ofInt f (pos n)) (ofInt-exact f n h)
 
 pub tolerance-mono : (f : Format) (n N : ℕ) → n ≤ N → N ≤ 2 ^ prec f → (x : Float) → T (le (magnitude x) (tolerance f n)) → T (le (magnitude x) (tolerance f N))
 tolerance-mono f n N h l x t =

@@ -7,6 +7,7 @@ ghost use Rattle.arithmetic.specs.Matrix.{withRow};
 ghost use Rattle.lu.specs.Lu.{pivotRow, swapRows, reduced, subtracted, eliminated, LuDone, tolerance as toleranceOf};
 use crate::LuOutcome;
 use arithmetic::float::magnitude;
+use arithmetic::float::of_small;
 use arithmetic::matrix::entry;
 use arithmetic::matrix::set_entry;
 
@@ -85,7 +86,7 @@ pub fn tolerance(n: usize) -> f64
     requires { ⌜ n ≤ 64 ⌝ }
     ensures { λ r. ⌜ r ≡ toleranceOf binary64 n ⌝ }
 {
-    2.220446049250313e-16 * (n as f64)
+    2.220446049250313e-16 * of_small(n)
 }
 
 // The factors of an n by n matrix take its place, and the pivots' rows are written to pivots. Where a column is refused, the

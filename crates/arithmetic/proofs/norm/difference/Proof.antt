@@ -8,7 +8,7 @@ use Rattle.arithmetic.specs.Root.{sqrtOf}
 use Rattle.arithmetic.specs.Norm.{sumOfSquares, frobenius, difference}
 use Rattle.arithmetic.specs.Workspace.{slot}
 use Rattle.arithmetic.proofs.MatrixLaws.{square-le}
-use Rattle.arithmetic.proofs.NormLaws.{subM-parts}
+use Rattle.arithmetic.proofs.ProductLaws.{subM-parts}
 use borrow.Author.Needs.{needs}
 use Rattle.arithmetic.proofs.norm.difference.Statement.{statement}
 use Rattle.arithmetic.proofs.norm.difference.Tie as tie

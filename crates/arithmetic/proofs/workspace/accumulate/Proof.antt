@@ -1,5 +1,5 @@
 -- `accumulate` meets its contract. The invariant: the first k entries are changed, and nothing else. Assumes nothing.
-use Prim.Native.Nat.{ℕ, _+_, _-_, _*_, _≤_}
+use Prim.Native.Nat.{_+_, _-_, _*_, _≤_}
 use native.Mathlib.Omega.{arith}
 use mathlib.Core.Path.{_≡_, refl}
 use lib.ListN.{length, length-set}
@@ -7,15 +7,14 @@ use lib.Ieee.{Float, binary64, add, mul}
 use Rattle.arithmetic.specs.Matrix.{tab, item, put}
 use Rattle.arithmetic.specs.Workspace.{slot, store}
 use Rattle.arithmetic.proofs.MatrixLaws.{square-le}
-use Rattle.arithmetic.proofs.PartLaws.{put-none, put-store, read-apart, read-next}
+use Rattle.arithmetic.proofs.PartLaws.{put-none, put-zip-more}
 use Rattle.arithmetic.proofs.ProductLaws.{accumulateM-parts}
 use Rattle.arithmetic.proofs.Slots.{slots-apart}
 use Rattle.arithmetic.proofs.workspace.accumulate.Statement.{statement}
 use Rattle.arithmetic.proofs.workspace.accumulate.Tie as tie
 
 abbrev Inv-loop : tie.InvT-loop
-Inv-loop w₀ c p by n x y m k₀ w k =
-    (m ≤ 256) × (k ≤ m) × (length w ≡ length w₀) × (w ≡ put w₀ y (tab k (λ i. add binary64 (item w₀ (y + i)) (mul binary64 by (item w₀ (x + i))))))
+Inv-loop w₀ c p by n x y m k₀ w k = (m ≤ 256) × (k ≤ m) × (length w ≡ length w₀) × (w ≡ put w₀ y (tab k (λ i. add binary64 (item w₀ (y + i)) (mul binary64 by (item w₀ (x + i))))))
 
 abbrev μ-loop : tie.MeasureT-loop
 μ-loop w₀ c p by n x y m k₀ w k = m - k
@@ -70,10 +69,8 @@ loop-again c =
     let l = c .before .before .before .loop in
     let s = c .before .before .before .before in
     let a = s .args in
-    let F : ℕ → Float = λ i. add binary64 (item (a .w .now) (256 * a .c + i)) (mul binary64 (a .by) (item (a .w .now) (256 * a .p + i))) in
-    let own = read-next (a .w .now) (256 * a .c) (l .k) F in
-    let other = read-apart (a .w .now) (256 * a .c) (l .k) F (256 * a .p) (a .n * a .n) (slots-apart (a .p) (a .c) (a .n * a .n) (a .n * a .n) (s .pre .1 .2) (l .inv .0) (l .inv .0)) (c .before .before .loop-test .taken) in
-    (l .inv .0, omega arith, simp length-set (l .inv .2), rw (l .inv .3) (put-store _ _ _ F _ (λ i. add binary64 (own i) (mul binary64 (a .by) (other i)))))
+    let apart = slots-apart (a .p) (a .c) (a .n * a .n) (a .n * a .n) (s .pre .1 .2) (l .inv .0) (l .inv .0) in
+    (l .inv .0, omega arith, simp length-set (l .inv .2), rw (l .inv .3) (put-zip-more _ _ _ _ _ (λ (u v : Float). add binary64 u (mul binary64 (a .by) v)) apart (c .before .before .loop-test .taken)))
 
 same-length : tie.Need-same-length Inv-loop μ-loop
 same-length c = omega arith

@@ -1,0 +1,79 @@
+-- `column_sum_minus_identity` meets its contract. The invariant: the sum is that of the first i magnitudes, and q is the place of entry i. Assumes nothing.
+use Prim.Native.Nat.{_+_, _-_, _*_, _<_, _≤_}
+use native.Mathlib.Omega.{arith}
+use mathlib.Core.Path.{_≡_}
+use lib.Ieee.{binary64}
+use native.Mathlib.Nat.{zero-mul}
+use Rattle.arithmetic.specs.Matrix.{item}
+use Rattle.arithmetic.specs.Product.{minusIdentityEntry}
+use Rattle.arithmetic.specs.Norm.{sumOfMagnitudes}
+use Rattle.arithmetic.proofs.MatrixLaws.{more-rows, index-lt}
+use Rattle.arithmetic.proofs.NormLaws.{magnitudes-none, magnitudes-more}
+use Rattle.arithmetic.proofs.norm.column_sum_minus_identity.Statement.{statement}
+use Rattle.arithmetic.proofs.norm.column_sum_minus_identity.Tie as tie
+
+abbrev Inv-loop : tie.InvT-loop
+Inv-loop w x j n sum₀ q₀ i₀ sum q i = (i ≤ n) × (q ≡ x + (i * n + j)) × (sum ≡ sumOfMagnitudes binary64 i (λ k. minusIdentityEntry binary64 k j (item w (x + (k * n + j)))))
+
+abbrev μ-loop : tie.MeasureT-loop
+μ-loop w x j n sum₀ q₀ i₀ sum q i = n - i
+
+add-q : tie.Need-add-q Inv-loop μ-loop
+add-q c = omega arith
+
+loop-holds : tie.Need-loop-holds Inv-loop μ-loop
+loop-holds c = (omega arith, omega (arith, zero-mul (c .before .args .n)), magnitudes-none binary64 _)
+
+-- in a turn q is within the matrix at x
+inside : (c : tie.In-loop Inv-loop μ-loop) → c .before .loop .i * c .before .before .before .args .n + c .before .before .before .args .j < c .before .before .before .args .n * c .before .before .before .args .n
+inside c = index-lt (c .loop-test .taken) (omega arith)
+
+mul-minus-identity-entry : tie.Need-mul-minus-identity-entry Inv-loop μ-loop
+mul-minus-identity-entry c = omega (arith, inside c)
+
+shared-slice-read-minus-identity-entry : tie.Need-shared-slice-read-minus-identity-entry Inv-loop μ-loop
+shared-slice-read-minus-identity-entry c = omega (arith, inside (c .before))
+
+minus-identity-entry-requires : tie.Need-minus-identity-entry-requires Inv-loop μ-loop
+minus-identity-entry-requires c κs = tt
+
+magnitude-requires : tie.Need-magnitude-requires Inv-loop μ-loop
+magnitude-requires c κs = tt
+
+add-q-2 : tie.Need-add-q-2 Inv-loop μ-loop
+add-q-2 c = omega (arith, inside (c .before .before .before))
+
+add-i : tie.Need-add-i Inv-loop μ-loop
+add-i c = omega arith
+
+loop-less : tie.Need-loop-less Inv-loop μ-loop
+loop-less c = omega arith
+
+loop-again : tie.Need-loop-again Inv-loop μ-loop
+loop-again c =
+    let l = c .before .before .before .before .loop in
+    let a = c .before .before .before .before .before .before .args in
+    (omega arith, omega (arith, more-rows (l .i) (a .n)), rw (c .magnitude .ensures, c .before .minus-identity-entry .ensures, l .inv .1, l .inv .2, magnitudes-more))
+
+returns : tie.Need-returns Inv-loop μ-loop
+returns c =
+    let e : c .before .loop .i ≡ c .before .before .before .args .n = omega arith in
+    rw e at (c .before .loop .inv .2)
+
+pub column-sum-minus-identity-spec : {M : Type 1} → statement M
+column-sum-minus-identity-spec =
+    tie.close
+    (tie.spec
+    Inv-loop
+    μ-loop
+    add-q
+    loop-holds
+    mul-minus-identity-entry
+    shared-slice-read-minus-identity-entry
+    minus-identity-entry-requires
+    magnitude-requires
+    add-q-2
+    add-i
+    loop-less
+    loop-again
+    returns)

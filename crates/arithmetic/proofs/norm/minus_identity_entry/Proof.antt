@@ -1,0 +1,17 @@
+-- `minus_identity_entry` meets its contract. Assumes nothing.
+use borrow.Author.Tests.{eq-eqb, ne-eqb}
+use Rattle.arithmetic.specs.Product.{minusIdentityEntry}
+use Rattle.arithmetic.proofs.ProductLaws.{one-bits}
+use Rattle.arithmetic.proofs.norm.minus_identity_entry.Statement.{statement}
+use Rattle.arithmetic.proofs.norm.minus_identity_entry.Tie as tie
+
+returns : tie.Need-returns
+unfolding minusIdentityEntry
+returns c = rw (one-bits, eq-eqb _ _ (c .if1 .taken))
+
+returns-2 : tie.Need-returns-2
+unfolding minusIdentityEntry
+returns-2 c = rw (ne-eqb _ _ (c .if1 .left))
+
+pub minus-identity-entry-spec : {M : Type 1} → statement M
+minus-identity-entry-spec = tie.close (tie.spec returns returns-2)

@@ -1,0 +1,18 @@
+-- `diagonal_entry` meets its contract. Assumes nothing.
+use lib.Ieee.{binary64}
+use borrow.Author.Tests.{eq-eqb, ne-eqb}
+use Rattle.arithmetic.specs.Product.{diagonalEntry}
+use Rattle.arithmetic.proofs.ProductLaws.{+zero-bits}
+use Rattle.arithmetic.proofs.workspace.diagonal_entry.Statement.{statement}
+use Rattle.arithmetic.proofs.workspace.diagonal_entry.Tie as tie
+
+returns : tie.Need-returns
+unfolding diagonalEntry
+returns c = rw (eq-eqb _ _ (c .if1 .taken))
+
+returns-2 : tie.Need-returns-2
+unfolding diagonalEntry
+returns-2 c = rw (+zero-bits binary64, ne-eqb _ _ (c .if1 .left))
+
+pub diagonal-entry-spec : {M : Type 1} → statement M
+diagonal-entry-spec = tie.close (tie.spec returns returns-2)

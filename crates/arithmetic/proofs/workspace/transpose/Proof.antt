@@ -1,0 +1,93 @@
+-- `transpose` meets its contract. The invariant: the first i rows are written, and nothing else is changed. Assumes nothing.
+use Prim.Native.Nat.{_+_, _-_, _*_, _≤_}
+use native.Mathlib.Nat.{zero-mul}
+use native.Mathlib.Omega.{arith}
+use mathlib.Core.Path.{_≡_, refl, _∙_}
+use lib.ListN.{length}
+use Rattle.arithmetic.specs.Matrix.{grid, item, put, Apart}
+use Rattle.arithmetic.specs.Workspace.{slot, store}
+use Rattle.arithmetic.proofs.MatrixLaws.{row-end, more-rows, square-le}
+use Rattle.arithmetic.proofs.PartLaws.{put-no-row, apart-within}
+use Rattle.arithmetic.proofs.ProductLaws.{transposeM-part, transposeM-row}
+use Rattle.arithmetic.proofs.Slots.{slots-apart}
+use Rattle.arithmetic.proofs.workspace.transpose.Statement.{statement}
+use Rattle.arithmetic.proofs.workspace.transpose.Tie as tie
+
+abbrev Inv-loop : tie.InvT-loop
+Inv-loop w₀ a c n x y₀ i₀ w y i = (n * n ≤ 256) × (i ≤ n) × (length w ≡ length w₀) × (y ≡ 256 * c + i * n) × (w ≡ put w₀ (256 * c) (grid i n (λ r j. item w₀ (256 * a + (j * n + r)))))
+
+abbrev μ-loop : tie.MeasureT-loop
+μ-loop w₀ a c n x y₀ i₀ w y i = n - i
+
+mul-x : tie.Need-mul-x Inv-loop μ-loop
+mul-x c = omega arith
+
+mul-y : tie.Need-mul-y Inv-loop μ-loop
+mul-y c = omega arith
+
+loop-holds : tie.Need-loop-holds Inv-loop μ-loop
+loop-holds c = (square-le (c .before .args .n) (c .before .pre .0 .order), omega arith, refl, omega (arith, zero-mul (c .before .args .n)), put-no-row _ _ _ _)
+
+-- in a turn row i lies within its matrix
+rows : (c : tie.In-loop Inv-loop μ-loop) → let n = c .before .before .before .args .n in c .before .loop .i * n + n ≤ n * n
+rows c = let n = c .before .before .before .args .n in row-end (c .before .loop .i) n n (c .loop-test .taken)
+
+-- the two matrices are apart
+apart : (c : tie.In-loop Inv-loop μ-loop) → let a = c .before .before .before .args in Apart (256 * a .a) (a .n * a .n) (256 * a .c) (a .n * a .n)
+apart c =
+    let s = c .before .before .before in
+    let small = c .before .loop .inv .0 in
+    slots-apart (s .args .a) (s .args .c) _ _ (s .pre .1 .2) small small
+
+transpose-row-requires : tie.Need-transpose-row-requires Inv-loop μ-loop
+transpose-row-requires c κs =
+    let r = rows (c .before) in
+    (omega arith, apart-within _ _ _ _ _ _ _ _ (apart (c .before)) (omega arith) (omega arith) (omega arith) (omega arith))
+
+add-y : tie.Need-add-y Inv-loop μ-loop
+add-y c = omega (arith, rows (c .before .before .before .before))
+
+add-i : tie.Need-add-i Inv-loop μ-loop
+add-i c = omega arith
+
+loop-less : tie.Need-loop-less Inv-loop μ-loop
+loop-less c = omega arith
+
+loop-again : tie.Need-loop-again Inv-loop μ-loop
+loop-again c =
+    let in-loop = c .before .before .before .before in
+    let l = in-loop .before .loop in
+    let a = in-loop .before .before .before .args in (
+      l .inv .0,
+      omega arith,
+      c .before .before .transpose-row .kept .0 ∙ l .inv .2,
+      omega (arith, more-rows (l .i) (a .n)),
+      rw (c .before .before .transpose-row .ensures, l .inv .3, l .inv .4) (transposeM-row (a .n) (a .w .now) (256 * a .a) (256 * a .c) (l .i) (in-loop .loop-test .taken) (apart in-loop)),
+    )
+
+same-length : tie.Need-same-length Inv-loop μ-loop
+same-length c = omega arith
+
+returns : tie.Need-returns Inv-loop μ-loop
+unfolding slot store
+returns c =
+    let a = c .before .before .before .args in
+    let e : c .before .loop .i ≡ a .n = omega arith in
+    rw (transposeM-part (a .n) (a .w .now) (256 * a .a)) (rw e at (c .before .loop .inv .4))
+
+pub transpose-spec : {M : Type 1} → statement M
+transpose-spec =
+    tie.close
+    (tie.spec
+    Inv-loop
+    μ-loop
+    mul-x
+    mul-y
+    loop-holds
+    transpose-row-requires
+    add-y
+    add-i
+    loop-less
+    loop-again
+    same-length
+    returns)

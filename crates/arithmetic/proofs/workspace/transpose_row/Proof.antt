@@ -1,0 +1,89 @@
+-- `transpose_row` meets its contract. The invariant: the first j entries of the row are written, nothing else is changed, and q is the place of the next. Assumes nothing.
+use Prim.Native.Nat.{ℕ, _+_, _-_, _*_, _<_, _≤_}
+use native.Mathlib.Nat.{zero-mul}
+use native.Mathlib.Omega.{arith}
+use mathlib.Core.Path.{_≡_, refl}
+use lib.ListN.{length, length-set}
+use lib.Ieee.{Float, nan}
+use Rattle.arithmetic.specs.Matrix.{tab, item, put}
+use Rattle.arithmetic.proofs.MatrixLaws.{index-lt, more-rows, length-tab}
+use Rattle.arithmetic.proofs.PartLaws.{put-none, put-store, getD-put-apart}
+use Rattle.arithmetic.proofs.workspace.transpose_row.Statement.{statement}
+use Rattle.arithmetic.proofs.workspace.transpose_row.Tie as tie
+
+abbrev Inv-loop : tie.InvT-loop
+Inv-loop w₀ x y i n q₀ j₀ w q j = (j ≤ n) × (length w ≡ length w₀) × (q ≡ x + (j * n + i)) × (w ≡ put w₀ y (tab j (λ k. item w₀ (x + (k * n + i)))))
+
+abbrev μ-loop : tie.MeasureT-loop
+μ-loop w₀ x y i n q₀ j₀ w q j = n - j
+
+add-q : tie.Need-add-q Inv-loop μ-loop
+add-q c = omega arith
+
+loop-holds : tie.Need-loop-holds Inv-loop μ-loop
+loop-holds c = (omega arith, refl, omega (arith, zero-mul (c .args .n)), put-none _ _ _)
+
+-- in a turn q is within the matrix at x
+inside : (c : tie.In-loop Inv-loop μ-loop) → let a = c .before .before .args in c .before .loop .j * a .n + a .i < a .n * a .n
+inside c = index-lt (c .loop-test .taken) (c .before .before .pre .0 .1)
+
+mul-w : tie.Need-mul-w Inv-loop μ-loop
+mul-w c = omega (arith, inside c)
+
+slice-read-w : tie.Need-slice-read-w Inv-loop μ-loop
+slice-read-w c = omega (arith, inside (c .before))
+
+add-w : tie.Need-add-w Inv-loop μ-loop
+add-w c = omega arith
+
+mul-w-2 : tie.Need-mul-w-2 Inv-loop μ-loop
+mul-w-2 c = omega arith
+
+slice-write-w : tie.Need-slice-write-w Inv-loop μ-loop
+slice-write-w c = omega arith
+
+add-q-2 : tie.Need-add-q-2 Inv-loop μ-loop
+add-q-2 c = omega (arith, inside (c .before))
+
+add-j : tie.Need-add-j Inv-loop μ-loop
+add-j c = omega arith
+
+loop-less : tie.Need-loop-less Inv-loop μ-loop
+loop-less c = omega arith
+
+loop-again : tie.Need-loop-again Inv-loop μ-loop
+loop-again c =
+    let l = c .before .before .loop in
+    let s = c .before .before .before in
+    let a = s .args in
+    let F : ℕ → Float = λ k. item (a .w .now) (a .x + (k * a .n + a .i)) in
+    let read = getD-put-apart (a .w .now) (a .y) (a .n) (tab (l .j) F) (a .x) (a .n * a .n) (l .j * a .n + a .i) nan (s .pre .1) (omega (arith, length-tab (l .j) F)) (inside (c .before)) in
+    (omega arith, simp length-set (l .inv .1), omega (arith, more-rows (l .j) (a .n)), rw (l .inv .2, l .inv .3) (put-store _ _ _ F _ read))
+
+same-length : tie.Need-same-length Inv-loop μ-loop
+same-length c = omega arith
+
+returns : tie.Need-returns Inv-loop μ-loop
+returns c =
+    let e : c .before .loop .j ≡ c .before .before .args .n = omega arith in
+    rw e at (c .before .loop .inv .3)
+
+pub transpose-row-spec : {M : Type 1} → statement M
+transpose-row-spec =
+    tie.close
+    (tie.spec
+    Inv-loop
+    μ-loop
+    add-q
+    loop-holds
+    mul-w
+    slice-read-w
+    add-w
+    mul-w-2
+    slice-write-w
+    add-q-2
+    add-j
+    loop-less
+    loop-again
+    same-length
+    returns)
