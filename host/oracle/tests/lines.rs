@@ -92,12 +92,7 @@ fn kron_and_kron_sum() {
     let product = oracle::kron(1, 2, &[1.0, 2.0], 2, 1, &[3.0, 4.0]);
     assert_eq!(product, [3.0, 6.0, 4.0, 8.0]);
     let sum = oracle::kron_sum(2, 2, &[1.0, 2.0, 3.0, 4.0], 2, 2, &[10.0, 20.0, 30.0, 40.0]);
-    let wanted = [
-        [11.0, 20.0, 2.0, 0.0],
-        [30.0, 41.0, 0.0, 2.0],
-        [3.0, 0.0, 14.0, 20.0],
-        [0.0, 3.0, 30.0, 44.0],
-    ];
+    let wanted = [[11.0, 20.0, 2.0, 0.0], [30.0, 41.0, 0.0, 2.0], [3.0, 0.0, 14.0, 20.0], [0.0, 3.0, 30.0, 44.0]];
     assert_eq!(sum, wanted.concat());
     // An infinity times the 0 of the identity is NaN.
     assert!(oracle::kron_sum(1, 1, &[f64::INFINITY], 2, 2, &[0.0; 4])[1].is_nan());

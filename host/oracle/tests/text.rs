@@ -41,7 +41,6 @@ fn the_tree_names_the_copies() {
     let tree = include_str!(concat!(env!("OUT_DIR"), "/tree.rs"));
     let paths: Vec<&str> = tree.lines().filter(|l| l.starts_with("#[path")).collect();
     let names = ["partial_piv", "kronecker", "types", "functions"];
-    let wanted: Vec<String> =
-        names.iter().map(|n| format!("#[path = \"{}/{n}.rs\"]", env!("OUT_DIR"))).collect();
+    let wanted: Vec<String> = names.iter().map(|n| format!("#[path = \"{}/{n}.rs\"]", env!("OUT_DIR"))).collect();
     assert_eq!(paths, wanted);
 }

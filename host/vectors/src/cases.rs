@@ -24,15 +24,18 @@ enum Kind {
     NearIdentity,
     Definite,
     PositiveUpper,
+    Shear,
     Rotation,
     Special,
+    AtPower,
+    Overflowing,
     Nonfinite,
 }
 
 use Kind::*;
 
 /// Every kind with finite entries.
-const FINITE: [Kind; 19] = [
+const FINITE: [Kind; 22] = [
     SmallIntegers,
     Normal,
     Scaled,
@@ -50,16 +53,18 @@ const FINITE: [Kind; 19] = [
     NearIdentity,
     Definite,
     PositiveUpper,
+    Shear,
     Rotation,
     Special,
+    AtPower,
+    Overflowing,
 ];
 
 /// Kinds that have a logarithm and a root.
-const ROOTED: [Kind; 3] = [NearIdentity, Definite, PositiveUpper];
+const ROOTED: [Kind; 4] = [NearIdentity, Definite, PositiveUpper, Shear];
 
 /// Kinds of entries for matrices that need not be square.
-const ENTRIES: [Kind; 9] =
-    [SmallIntegers, Normal, Scaled, PowersOfTwo, Zeros, Ties, Huge, Tiny, AnyFinite];
+const ENTRIES: [Kind; 9] = [SmallIntegers, Normal, Scaled, PowersOfTwo, Zeros, Ties, Huge, Tiny, AnyFinite];
 
 const NOT_FINITE: [f64; 3] = [f64::NAN, f64::INFINITY, f64::NEG_INFINITY];
 
@@ -80,6 +85,7 @@ fn entries(kind: Kind, count: usize, r: &mut Random) -> Vec<f64> {
             Ties => r.sign() * scale,
             Zeros if r.once_in(2) => r.sign() * 0.0,
             AnyFinite => r.finite(),
+            Overflowing if r.once_in(2) => r.sign() * (1.0 + r.unit()) * 2f64.powi(1023),
             Nonfinite if r.once_in(4) => r.pick(&NOT_FINITE),
             _ => r.normal() * scale,
         });
@@ -171,6 +177,20 @@ fn square(kind: Kind, n: usize, r: &mut Random) -> Vec<f64> {
                 }
             }
         }
+        Shear => {
+            // The identity and one entry above the diagonal, up to the largest: its logarithm is that entry, and may overflow times p.
+            let power = if r.once_in(4) { r.power_of_two(1000, 1023) } else { r.power_of_two(-20, 60) };
+            let entry = r.sign() * power * r.pick(&[1.0, 1.0, 1.5, 1.25]);
+            a = vec![0.0; n * n];
+            for i in 0..n {
+                a[i * n + i] = 1.0;
+            }
+            if n > 1 {
+                let i = r.below(n - 1);
+                let j = i + 1 + r.below(n - 1 - i);
+                a[i * n + j] = entry;
+            }
+        }
         Rotation => {
             // Pairs of rows turn by an angle; a last row alone is 1.
             a = vec![0.0; n * n];
@@ -181,6 +201,18 @@ fn square(kind: Kind, n: usize, r: &mut Random) -> Vec<f64> {
                     a[i * n + i] = 1.0;
                 } else {
                     a[i * n + pair] = if i < pair { -angle } else { angle };
+                }
+            }
+        }
+        AtPower => {
+            // A diagonal whose 1-norm is a power of two or next to it, or that less 1, as cosine and sine add 1.
+            let power = if r.once_in(4) { r.power_of_two(0, 1023) } else { r.power_of_two(0, 40) };
+            let largest = r.pick(&[power, power.next_up(), power.next_down(), power - 1.0, power * (1.0 + 1e-11)]);
+            let at = r.below(n);
+            for i in 0..n {
+                for j in 0..n {
+                    let inside = if i == at { largest } else { largest * r.unit() };
+                    a[i * n + j] = if i == j { r.sign() * inside } else { 0.0 };
                 }
             }
         }

@@ -7,4 +7,5 @@ pub mod cases;
 pub mod norms;
 pub mod questions;
 pub mod random;
+pub mod read;
 pub mod roots;

@@ -21,14 +21,7 @@ pub trait ToPrimitive {
 }
 
 pub trait Float:
-    Copy
-    + PartialOrd
-    + Zero
-    + One
-    + ToPrimitive
-    + Neg<Output = Self>
-    + Sub<Self, Output = Self>
-    + Div<Self, Output = Self>
+    Copy + PartialOrd + Zero + One + ToPrimitive + Neg<Output = Self> + Sub<Self, Output = Self> + Div<Self, Output = Self>
 {
     fn epsilon() -> Self;
     fn abs(self) -> Self;

@@ -37,7 +37,7 @@ pub mod level3 {
             _diag: Diag,
             _a: MatRef<'_, T>,
             _b: MatMut<'_, T>,
-        ) -> Result<(), ()> {
+        ) {
             unimplemented!()
         }
     }
