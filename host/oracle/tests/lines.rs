@@ -87,6 +87,21 @@ fn shapes_are_refused() {
     assert_eq!(refused, Err(MatFunError::NotSquare { nrows: 2, ncols: 3 }));
 }
 
+/// Newton's root of -3 I goes from I to -I and back, and after 100 steps answers I. So this logarithm is 0.
+#[test]
+fn a_root_that_runs_out_of_steps_answers() {
+    let log = oracle::logm(2, 2, &[-3.0, 0.0, 0.0, -3.0]).unwrap();
+    assert_eq!(bits(&log), bits(&[0.0; 4]));
+    assert_eq!(oracle::logm(2, 2, &[-1.0, 0.0, 0.0, -1.0]), Err(MatFunError::NotConverged));
+}
+
+/// 100 roots leave the entry at 1e308 × 2^-100; the logarithm is still exact.
+#[test]
+fn a_logarithm_that_runs_out_of_roots_answers() {
+    let log = oracle::logm(2, 2, &[1.0, 1e308, 0.0, 1.0]).unwrap();
+    assert_eq!(bits(&log), bits(&[0.0, 1e308, 0.0, 0.0]));
+}
+
 #[test]
 fn kron_and_kron_sum() {
     let product = oracle::kron(1, 2, &[1.0, 2.0], 2, 1, &[3.0, 4.0]);

@@ -1,7 +1,7 @@
 //! Lines are read back, and repeat for the same seed.
 
 use vectors::answer::answer;
-use vectors::call::{Call, FUNCTIONS, Function, Outcome, line};
+use vectors::call::{Call, FUNCTIONS, Function, Outcome, Refusal, line};
 use vectors::cases::case;
 use vectors::norms::{halvings, near_power_of_two, source_halvings};
 use vectors::random::Random;
@@ -67,7 +67,7 @@ fn halvings_agree_away_from_powers_of_two() {
     }
 }
 
-/// The least norms where the counts part, one in each direction; such calls are left out.
+/// The least norms where the counts part, one in each direction, by this machine's logarithm; such calls are left out.
 #[test]
 fn halvings_part_near_powers_of_two() {
     // From 1 to 2^9, each power of two and 2^13 numbers on each side of it.
@@ -85,6 +85,15 @@ fn halvings_part_near_powers_of_two() {
         call.matrix = vec![norm, 0.0, 0.0, 0.0];
         assert!(matches!(answer(&call), Outcome::Parted));
     }
+}
+
+/// The logarithm of [[1, 1e308], [0, 1]] is finite, but 2.5 times it is not. The source would square it without end.
+#[test]
+fn a_fractional_power_that_overflows() {
+    let mut call = Call::new(Function::Powm);
+    (call.rows, call.columns, call.outputs[0], call.room) = (2, 2, 4, 8192);
+    (call.matrix, call.exponent) = (vec![1.0, 1e308, 0.0, 1.0], 2.5);
+    assert!(matches!(answer(&call), Outcome::Refused(Refusal(12, 0, 0))));
 }
 
 /// A root is the nearest number, by compared squares of whole numbers, as document 01 judges it.
