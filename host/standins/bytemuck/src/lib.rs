@@ -1,0 +1,11 @@
+//! Stand-in for the crate bytemuck: the one trait that the source names, for f64.
+
+pub trait Zeroable: Sized {
+    fn zeroed() -> Self;
+}
+
+impl Zeroable for f64 {
+    fn zeroed() -> f64 {
+        0.0
+    }
+}

@@ -1,0 +1,114 @@
+//! The answer of a call: document 01's questions, and then the source.
+
+use crate::call::{Call, Done, Function::*, Outcome, Refusal};
+use crate::norms::{block, even_direction, frobenius_norm, halvings, near_power_of_two, one_norm, source_halvings};
+use crate::questions::asked;
+use oracle::{Lu, LuError, MatFunError};
+
+/// What the source gives: its outputs, one or two.
+type Given = Result<[Vec<f64>; 2], MatFunError>;
+
+fn one(given: Result<Vec<f64>, MatFunError>) -> Given {
+    given.map(|x| [x, Vec::new()])
+}
+
+fn two(given: Result<(Vec<f64>, Vec<f64>), MatFunError>) -> Given {
+    given.map(|(x, y)| [x, y])
+}
+
+fn done(halvings: usize, outputs: [Vec<f64>; 2]) -> Outcome {
+    Outcome::Done(Done { halvings, near: false, outputs, pivots: Vec::new() })
+}
+
+/// A function without halvings. After questions 1 to 11 the source's only refusal is NotConverged.
+fn plain(given: Given) -> Outcome {
+    match given {
+        Ok(outputs) => done(0, outputs),
+        Err(MatFunError::NotConverged) => Outcome::Refused(Refusal(13, 0, 0)),
+        Err(other) => panic!("the source refused {other:?} where questions 1 to 11 passed"),
+    }
+}
+
+/// A function whose halvings are set by this norm, or by the norm + 1 for cosine and sine. Question 12 is document 01's own: the source
+/// would not end.
+fn halved(norm: f64, run: impl Fn() -> Given) -> Outcome {
+    if !norm.is_finite() {
+        return Outcome::Refused(Refusal(12, 0, 0));
+    }
+    let s = halvings(norm);
+    if source_halvings(norm) != s {
+        return Outcome::Parted;
+    }
+    match plain(run()) {
+        Outcome::Done(d) => Outcome::Done(Done { halvings: s, near: near_power_of_two(norm), ..d }),
+        refused => refused,
+    }
+}
+
+fn power(n: usize, a: &[f64], p: f64) -> Outcome {
+    let run = || one(oracle::powm(n, n, a, p));
+    if (p - p.round()).abs() < 1e-14 {
+        return plain(run());
+    }
+    // A fractional power's exponential halves its argument, which is the exponent times the logarithm. The answer reports 0.
+    match oracle::logm(n, n, a) {
+        Err(_) => plain(run()),
+        Ok(log) => {
+            let scaled: Vec<f64> = log.iter().map(|x| p * x).collect();
+            match halved(one_norm(n, &scaled), run) {
+                Outcome::Done(d) => Outcome::Done(Done { halvings: 0, ..d }),
+                refused => refused,
+            }
+        }
+    }
+}
+
+/// The ratio, and both norms. The source gives the ratio only; the norms are those of its frechet_expm's outputs.
+fn condition(n: usize, a: &[f64]) -> Given {
+    let e = even_direction(n);
+    let (exponential, derivative) = oracle::frechet_expm(n, n, a, n, n, &e)?;
+    let ratio = oracle::cond_expm(n, n, a)?;
+    Ok([vec![ratio, frobenius_norm(&derivative), frobenius_norm(&exponential)], Vec::new()])
+}
+
+/// The source's factors of the matrix behind a call of solve or determinant, which must be those that the call is given.
+fn factors(c: &Call) -> Lu {
+    let bits = |x: &[f64]| x.iter().map(|x| crate::call::word(*x)).collect::<Vec<u64>>();
+    let lu = Lu::compute(c.rows, c.rows, &c.factored).unwrap_or_else(|e| panic!("{e}"));
+    assert_eq!(bits(&lu.factors()), bits(&c.matrix));
+    assert_eq!(lu.pivots(), c.pivots);
+    lu
+}
+
+pub fn answer(c: &Call) -> Outcome {
+    if let Err(refusal) = asked(c) {
+        return Outcome::Refused(refusal);
+    }
+    let (n, a, m, e) = (c.rows, &c.matrix[..], c.companion_columns, &c.companion[..]);
+    match c.function {
+        Expm => halved(one_norm(n, a), || one(oracle::expm(n, n, a))),
+        Logm => plain(one(oracle::logm(n, n, a))),
+        Sqrtm => plain(one(oracle::sqrtm(n, n, a))),
+        Powm => power(n, a, c.exponent),
+        Cosm => halved(one_norm(n, a) + 1.0, || one(oracle::cosm(n, n, a))),
+        Sinm => halved(one_norm(n, a) + 1.0, || one(oracle::sinm(n, n, a))),
+        FrechetExpm => halved(one_norm(2 * n, &block(n, a, e)), || two(oracle::frechet_expm(n, n, a, n, n, e))),
+        FrechetLogm => plain(two(oracle::frechet_logm(n, n, a, n, n, e))),
+        FrechetSqrtm => plain(two(oracle::frechet_sqrtm(n, n, a, n, n, e))),
+        CondExpm => halved(one_norm(2 * n, &block(n, a, &even_direction(n))), || condition(n, a)),
+        LuCompute => match Lu::compute(n, n, a) {
+            Ok(lu) => Outcome::Done(Done {
+                halvings: 0,
+                near: false,
+                outputs: [lu.factors(), Vec::new()],
+                pivots: lu.pivots().to_vec(),
+            }),
+            Err(LuError::Singular { index }) => Outcome::Refused(Refusal(14, index, 0)),
+            Err(other) => panic!("{other}"),
+        },
+        LuSolve => done(0, [factors(c).solve(n, m, e).unwrap(), Vec::new()]),
+        LuDeterminant => done(0, [vec![factors(c).determinant()], Vec::new()]),
+        Kron => done(0, [oracle::kron(n, c.columns, a, c.companion_rows, m, e), Vec::new()]),
+        KronSum => done(0, [oracle::kron_sum(n, n, a, m, m, e), Vec::new()]),
+    }
+}

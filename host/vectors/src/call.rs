@@ -1,0 +1,204 @@
+//! A call, its outcome, and both as one line of text.
+
+use std::fmt::Write;
+
+#[derive(Clone, Copy, Debug, PartialEq, Eq)]
+pub enum Function {
+    Expm,
+    Logm,
+    Sqrtm,
+    Powm,
+    Cosm,
+    Sinm,
+    FrechetExpm,
+    FrechetLogm,
+    FrechetSqrtm,
+    CondExpm,
+    LuCompute,
+    LuSolve,
+    LuDeterminant,
+    Kron,
+    KronSum,
+}
+
+use Function::*;
+
+pub const FUNCTIONS: [(Function, &str); 15] = [
+    (Expm, "expm"),
+    (Logm, "logm"),
+    (Sqrtm, "sqrtm"),
+    (Powm, "powm"),
+    (Cosm, "cosm"),
+    (Sinm, "sinm"),
+    (FrechetExpm, "frechet_expm"),
+    (FrechetLogm, "frechet_logm"),
+    (FrechetSqrtm, "frechet_sqrtm"),
+    (CondExpm, "cond_expm"),
+    (LuCompute, "lu_compute"),
+    (LuSolve, "lu_solve"),
+    (LuDeterminant, "lu_determinant"),
+    (Kron, "kron"),
+    (KronSum, "kron_sum"),
+];
+
+impl Function {
+    pub fn name(self) -> &'static str {
+        FUNCTIONS[self as usize].1
+    }
+
+    pub fn named(name: &str) -> Option<Function> {
+        FUNCTIONS.iter().find(|(_, n)| *n == name).map(|(f, _)| *f)
+    }
+
+    /// The functions that have a code on a sheet.
+    pub fn coded(self) -> bool {
+        (self as usize) <= CondExpm as usize
+    }
+
+    pub fn lu(self) -> bool {
+        matches!(self, LuCompute | LuSolve | LuDeterminant)
+    }
+
+    pub fn kronecker(self) -> bool {
+        matches!(self, Kron | KronSum)
+    }
+
+    pub fn directed(self) -> bool {
+        matches!(self, FrechetExpm | FrechetLogm | FrechetSqrtm)
+    }
+
+    /// A direction, a right-hand side or a second matrix stands beside the matrix.
+    pub fn has_companion(self) -> bool {
+        self.directed() || self == LuSolve || self.kronecker()
+    }
+
+    pub fn has_workspace(self) -> bool {
+        self.coded() || self == LuCompute
+    }
+
+    /// The lent outputs; numbers that are returned are none.
+    pub fn output_count(self) -> usize {
+        match self {
+            CondExpm | LuDeterminant => 0,
+            FrechetExpm | FrechetLogm | FrechetSqrtm => 2,
+            _ => 1,
+        }
+    }
+}
+
+/// What a call is given. What a function does not have is 0 or empty.
+#[derive(Clone, Debug)]
+pub struct Call {
+    pub function: Function,
+    pub rows: usize,
+    pub columns: usize,
+    pub matrix: Vec<f64>,
+    pub companion_rows: usize,
+    pub companion_columns: usize,
+    pub companion: Vec<f64>,
+    pub exponent: f64,
+    pub pivots: Vec<usize>,
+    /// The lengths of the lent outputs and of the workspace.
+    pub outputs: [usize; 2],
+    pub room: usize,
+    /// The matrix whose factors and pivots solve and determinant are given. It is not written to the line.
+    pub factored: Vec<f64>,
+}
+
+impl Call {
+    pub fn new(function: Function) -> Call {
+        Call {
+            function,
+            rows: 0,
+            columns: 0,
+            matrix: Vec::new(),
+            companion_rows: 0,
+            companion_columns: 0,
+            companion: Vec::new(),
+            exponent: 0.0,
+            pivots: Vec::new(),
+            outputs: [0, 0],
+            room: 0,
+            factored: Vec::new(),
+        }
+    }
+
+    /// The length that each lent output must have.
+    pub fn output_length(&self) -> usize {
+        match self.function {
+            LuSolve => self.rows * self.companion_columns,
+            Kron | KronSum => self.rows * self.companion_rows * self.columns * self.companion_columns,
+            _ => self.rows * self.columns,
+        }
+    }
+}
+
+/// A refusal's number in document 01, and its two details.
+#[derive(Clone, Copy, Debug, PartialEq, Eq)]
+pub struct Refusal(pub usize, pub usize, pub usize);
+
+#[derive(Clone, Debug)]
+pub struct Done {
+    pub halvings: usize,
+    /// The norm that sets the halvings lies within relative distance 2^-40 of a power of two. Both counts agree there.
+    pub near: bool,
+    pub outputs: [Vec<f64>; 2],
+    pub pivots: Vec<usize>,
+}
+
+#[derive(Clone, Debug)]
+pub enum Outcome {
+    Done(Done),
+    Refused(Refusal),
+    /// The source takes another number of halvings than document 01 defines: a listed difference, not compared.
+    Parted,
+}
+
+/// The bits of a number; every NaN is written as one.
+pub fn word(x: f64) -> u64 {
+    if x.is_nan() { 0x7ff8_0000_0000_0000 } else { x.to_bits() }
+}
+
+fn put_numbers(line: &mut String, numbers: &[f64]) {
+    write!(line, " {:x}", numbers.len()).unwrap();
+    for x in numbers {
+        write!(line, " {:016x}", word(*x)).unwrap();
+    }
+}
+
+fn put_counts(line: &mut String, counts: &[usize]) {
+    for x in counts {
+        write!(line, " {x:x}").unwrap();
+    }
+}
+
+fn put_pivots(line: &mut String, pivots: &[usize]) {
+    put_counts(line, &[pivots.len()]);
+    put_counts(line, pivots);
+}
+
+/// One line without its newline, as host/README.md describes it; none for a call that is left out.
+pub fn line(call: &Call, outcome: &Outcome) -> Option<String> {
+    let mut line = call.function.name().to_string();
+    put_counts(&mut line, &[call.rows, call.columns, call.companion_rows, call.companion_columns]);
+    put_counts(&mut line, &[call.outputs[0], call.outputs[1], call.room]);
+    write!(line, " {:016x}", word(call.exponent)).unwrap();
+    put_numbers(&mut line, &call.matrix);
+    put_numbers(&mut line, &call.companion);
+    put_pivots(&mut line, &call.pivots);
+    match outcome {
+        Outcome::Done(done) => {
+            line.push_str(if done.near { " | near" } else { " | ok" });
+            put_counts(&mut line, &[done.halvings]);
+            put_numbers(&mut line, &done.outputs[0]);
+            put_numbers(&mut line, &done.outputs[1]);
+            put_pivots(&mut line, &done.pivots);
+        }
+        Outcome::Refused(Refusal(number, first, second)) => {
+            line.push_str(" | no");
+            put_counts(&mut line, &[*number, *first, *second]);
+        }
+        Outcome::Parted => return None,
+    }
+    Some(line)
+}

@@ -1,0 +1,11 @@
+//! Calls of document 01's functions with their answers. The source computes the numbers; document 01's rules give the refusals that the
+//! source does not have.
+
+pub mod answer;
+pub mod call;
+pub mod cases;
+pub mod norms;
+pub mod questions;
+pub mod random;
+pub mod read;
+pub mod roots;
