@@ -7,6 +7,7 @@ ghost use lib.Ieee.{binary64};
 ghost use Rattle.arithmetic.specs.Workspace.{Room};
 ghost use Rattle.functions.specs.Exponential.{nextCoefficient, Raised, Summed, Exponentiated, flip as flipOf};
 use arithmetic::float::inverse_power_of_two;
+use arithmetic::float::of_small;
 use arithmetic::workspace::accumulate;
 use arithmetic::workspace::copy;
 use arithmetic::workspace::identity;
@@ -21,7 +22,7 @@ pub fn next_coefficient(c: f64, k: usize) -> f64
     requires { ⌜ k < 14 ⌝ }
     ensures { λ r. ⌜ r ≡ nextCoefficient binary64 k c ⌝ }
 {
-    c * ((13 - k) as f64) / (((k + 1) * (26 - k)) as f64)
+    c * of_small(13 - k) / of_small((k + 1) * (26 - k))
 }
 
 // c, negated at odd k.

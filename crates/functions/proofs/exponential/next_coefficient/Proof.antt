@@ -1,11 +1,8 @@
 -- `next_coefficient` meets its contract: the two numbers are small enough to be floats. Assumes nothing.
-use mathlib.Core.Path.{refl}
-use Prim.Native.Nat.{ℕ, _+_, _-_, _*_, _^_, _≤_, _<_}
-use native.Mathlib.Nat.{mul-le-mul, le-trans}
+use Prim.Native.Nat.{ℕ, _+_, _-_, _*_, _≤_, _<_}
+use native.Mathlib.Nat.{mul-le-mul}
 use native.Mathlib.Numerals.{add-one}
 use native.Mathlib.Omega.{arith}
-use lib.Dec.{le→leb, lit≤}
-use lib.Ieee.{inFloat}
 use Rattle.functions.specs.Exponential.{nextCoefficient}
 use borrow.Author.Needs.{needs}
 use Rattle.functions.proofs.exponential.next_coefficient.Statement.{statement}
@@ -17,40 +14,36 @@ few k h =
     let q : 26 - k ≤ 26 = omega arith in
     mul-le-mul p q
 
-sub-result : tie.Need-sub-result
-sub-result c = search needs
+sub-of-small : tie.Need-sub-of-small
+sub-of-small c = search needs
 
-int-to-float-result : tie.Need-int-to-float-result
-unfolding inFloat
-int-to-float-result c = le→leb (13 - c .before .args .k) (2 ^ 53) (omega arith)
+of-small-requires : tie.Need-of-small-requires
+of-small-requires c κs = search needs
 
-add-result : tie.Need-add-result
-add-result c = search needs
+add-of-small : tie.Need-add-of-small
+add-of-small c = search needs
 
-sub-result-2 : tie.Need-sub-result-2
-sub-result-2 c = search needs
+sub-of-small-2 : tie.Need-sub-of-small-2
+sub-of-small-2 c = search needs
 
-mul-result : tie.Need-mul-result
-mul-result c = omega (arith, few (c .before .args .k) (c .before .pre))
+mul-of-small : tie.Need-mul-of-small
+mul-of-small c = omega (arith, few (c .before .args .k) (c .before .pre))
 
-int-to-float-result-2 : tie.Need-int-to-float-result-2
-unfolding inFloat
-int-to-float-result-2 c =
-    let s = c .before .before in
-    le→leb ((s .args .k + 1) * (26 - s .args .k)) (2 ^ 53) (le-trans (few (s .args .k) (s .pre)) (lit≤ tt))
+of-small-requires-2 : tie.Need-of-small-requires-2
+of-small-requires-2 c κs = omega (arith, few (c .before .args .k) (c .before .pre))
 
 returns : tie.Need-returns
 unfolding nextCoefficient
-returns c = rw add-one refl
+returns c = rw (c .of-small2 .ensures, c .before .of-small .ensures, add-one)
 
 pub next-coefficient-spec : {M : Type 1} → statement M
 next-coefficient-spec =
     tie.close
     (tie.spec
-    sub-result
-    int-to-float-result
-    add-result
-    sub-result-2
-    mul-result
-    int-to-float-result-2
+    sub-of-small
+    of-small-requires
+    add-of-small
+    sub-of-small-2
+    mul-of-small
+    of-small-requires-2
     returns)
