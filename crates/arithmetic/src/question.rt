@@ -1,0 +1,133 @@
+// The questions asked of a call, in their order: each finds that the call passes, or the refusal with its details.
+ghost use mathlib.Core.Path.{_≡_};
+ghost use mathlib.Core.Bool.{cond, _&&_};
+ghost use mathlib.Core.List.{[], _∷_};
+ghost use Prim.Native.Nat.{ℕ, _*_, _<_};
+ghost use lib.Dec.{eqb, ltb, leb};
+ghost use lib.ListN.{length};
+ghost use lib.Ieee.Scale.{finite};
+ghost use Rattle.arithmetic.specs.Result.{passes, firstNo, ask as askOf};
+ghost use Rattle.arithmetic.specs.Questions.{atMost, exactly, roomy, allFinite};
+ghost use Rattle.arithmetic.specs.Answers.{numbered, scanned, found};
+use crate::answer::Question;
+use crate::answer::Refusal;
+use crate::float::is_finite;
+
+// What the search for an entry that is not finite finds: none, or its row and column.
+pub enum Scan {
+    AllFinite,
+    At(usize, usize),
+}
+
+// ---- one question
+
+// Passed, or else the refusal.
+pub fn ask(yes: bool, why: Refusal) -> Question
+    ensures { λ r. ⌜ found r ≡ cond yes passes (numbered why) ⌝ }
+{
+    if yes {
+        Question::Passed
+    } else {
+        Question::No(why)
+    }
+}
+
+// 1: is there a row?
+pub fn ask_rows(rows: usize) -> Question
+    ensures { λ r. ⌜ found r ≡ askOf (ltb 0 rows) 1 0 0 ⌝ }
+{
+    ask(0 < rows, Refusal::EmptyMatrix)
+}
+
+// 2: are there as many columns as rows?
+pub fn ask_square(rows: usize, columns: usize) -> Question
+    ensures { λ r. ⌜ found r ≡ askOf (eqb rows columns) 2 rows columns ⌝ }
+{
+    ask(rows == columns, Refusal::NotSquare(rows, columns))
+}
+
+// 3: is the direction n by n?
+pub fn ask_direction_fits(n: usize, rows: usize, columns: usize) -> Question
+    ensures { λ r. ⌜ found r ≡ askOf (eqb rows n && eqb columns n) 3 rows columns ⌝ }
+{
+    if rows != n {
+        return Question::No(Refusal::CompanionShape(rows, columns));
+    }
+    ask(columns == n, Refusal::CompanionShape(rows, columns))
+}
+
+// 4: is x at most the limit?
+pub fn ask_at_most(x: usize, limit: usize) -> Question
+    ensures { λ r. ⌜ found r ≡ atMost limit x ⌝ }
+{
+    ask(x <= limit, Refusal::TooLarge(x, limit))
+}
+
+// 5: is a length the one wanted?
+pub fn ask_length(x: usize, wanted: usize) -> Question
+    ensures { λ r. ⌜ found r ≡ exactly wanted x ⌝ }
+{
+    ask(x == wanted, Refusal::WrongLength(x, wanted))
+}
+
+// 5: is a workspace of x numbers large enough?
+pub fn ask_room(x: usize) -> Question
+    ensures { λ r. ⌜ found r ≡ roomy x ⌝ }
+{
+    ask(8192 <= x, Refusal::WrongLength(x, 8192))
+}
+
+// The first entry of a, of rows by columns, that is not finite.
+pub fn scan_finite(a: &[f64], rows: usize, columns: usize) -> Scan
+    requires { ⌜ length (now a) ≡ rows * columns ⌝ }
+    ensures { λ r. ⌜ ((number : ℕ) → scanned number r ≡ allFinite number columns (now (a .entry))) ⌝ }
+{
+    let mut answer = Scan::AllFinite;
+    let mut i = 0;
+    'rows: while i < rows {
+        let mut j = 0;
+        'columns: while j < columns {
+            let k = i * columns + j;
+            if !is_finite(a[k]) {
+                answer = Scan::At(i, j);
+                break 'rows;
+            }
+            j += 1;
+        }
+        i += 1;
+    }
+    answer
+}
+
+// 8: is the exponent finite?
+pub fn ask_exponent(p: f64) -> Question
+    ensures { λ r. ⌜ found r ≡ askOf (finite p) 8 0 0 ⌝ }
+{
+    ask(is_finite(p), Refusal::ExponentNotFinite)
+}
+
+// 11: is the order at least 2?
+pub fn ask_from_two(rows: usize) -> Question
+    ensures { λ r. ⌜ found r ≡ askOf (leb 2 rows) 11 0 0 ⌝ }
+{
+    ask(2 <= rows, Refusal::OrderOne)
+}
+
+// 12: is the norm that sets the halvings finite?
+pub fn ask_norm(norm: f64) -> Question
+    ensures { λ r. ⌜ found r ≡ askOf (finite norm) 12 0 0 ⌝ }
+{
+    ask(is_finite(norm), Refusal::NormNotFinite)
+}
+
+// ---- several
+
+// The first that refuses.
+pub fn first_no(first: Question, next: Question) -> Question
+    ensures { λ r. ⌜ found r ≡ firstNo (found first ∷ found next ∷ []) ⌝ }
+{
+    match first {
+        Question::Passed => next,
+        Question::No(_) => first,
+    }
+}
