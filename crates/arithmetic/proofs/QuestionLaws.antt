@@ -59,24 +59,28 @@ firstNo-append [] m = refl
 firstNo-append (refused k x y ∷ l) m = refl
 firstNo-append (done s a ∷ l) m = firstNo-append l m
 
--- a question is a list of one
-pub single : (q : Question) (p : Found) → found q ≡ p → found q ≡ firstNo (p ∷ [])
+-- q answers the questions of a list
+pub record Asks (q : Question) (l : List Found) : Type 0 where
+  pub asks : found q ≡ firstNo l
+
+pub single : (q : Question) {p : Found} → found q ≡ p → Asks q (p ∷ [])
 unfolding firstNo
-single q p h = rw (← h) (sym (found-ends q))
-
--- a list that refuses decides for a longer one
-pub stops : (q : Question) (l m : List Found) (x : Refusal) → found q ≡ firstNo l → q ≡ No x → found q ≡ firstNo (l ++ m)
-stops q l m x h e = rw (firstNo-append l m, ← h, e) (sym (refusal-ends x _))
-
--- and one that passes leaves the rest
-pub goes-on : (q : Question) (l m : List Found) → found q ≡ firstNo l → q ≡ Passed → firstNo (l ++ m) ≡ firstNo m
-unfolding _>>=_
-goes-on q l m h e = rw (firstNo-append l m, ← h, e)
+single q h = record { asks = rw (← h) (sym (found-ends q)) }
 
 -- two lists, each asked by its own function
-pub joined : (a b r : Question) (l m : List Found) → found a ≡ firstNo l → found b ≡ firstNo m → found r ≡ firstNo (found a ∷ found b ∷ []) → found r ≡ firstNo (l ++ m)
+pub joined : {a b : Question} {l m : List Found} (r : Question) → Asks a l → Asks b m → found r ≡ firstNo (found a ∷ found b ∷ []) → Asks r (l ++ m)
 unfolding firstNo
-joined a b r l m h k e = rw (firstNo-append l m, ← h, ← k) (e ∙ ap (λ (z : Found). found a >>= λ _. z) (found-ends b))
+joined {a} {b} {l} {m} r h k e =
+    record { asks = rw (firstNo-append l m, ← h .asks, ← k .asks) (e ∙ ap (λ (z : Found). found a >>= λ _. z) (found-ends b)) }
+
+-- a list that refuses decides for a longer one
+pub stops : {q : Question} {l : List Found} {x : Refusal} (m : List Found) → Asks q l → q ≡ No x → Asks q (l ++ m)
+stops {q} {l} {x} m h e = record { asks = rw (firstNo-append l m, ← h .asks, e) (sym (refusal-ends x _)) }
+
+-- and one that passes leaves the rest
+pub goes-on : {q r : Question} {l m : List Found} → Asks q l → q ≡ Passed → Asks r m → Asks r (l ++ m)
+unfolding _>>=_
+goes-on {q} {r} {l} {m} h e k = record { asks = rw (firstNo-append l m, ← h .asks, e) (k .asks) }
 
 -- ---- 6 and 7: the scan
 

@@ -5,8 +5,11 @@ ghost use mathlib.Core.List.{[], _∷_};
 ghost use Prim.Native.Nat.{ℕ, _*_, _<_};
 ghost use lib.Dec.{eqb, ltb, leb};
 ghost use lib.ListN.{length};
+ghost use lib.Ieee.{lt, le};
 ghost use lib.Ieee.Scale.{finite};
-ghost use Rattle.arithmetic.specs.Result.{passes, firstNo, ask as askOf};
+ghost use Rattle.arithmetic.specs.Float.{+zero};
+ghost use Rattle.arithmetic.specs.Matrix.{item};
+ghost use Rattle.arithmetic.specs.Result.{passes, firstNo, only, ask as askOf};
 ghost use Rattle.arithmetic.specs.Questions.{atMost, exactly, roomy, allFinite};
 ghost use Rattle.arithmetic.specs.Answers.{numbered, scanned, found};
 use crate::answer::Question;
@@ -99,11 +102,55 @@ pub fn scan_finite(a: &[f64], rows: usize, columns: usize) -> Scan
     answer
 }
 
+// 6: is every entry of the matrix finite?
+pub fn ask_entries(a: &[f64], rows: usize, columns: usize) -> Question
+    requires { ⌜ length (now a) ≡ rows * columns ⌝ }
+    ensures { λ r. ⌜ found r ≡ allFinite 6 columns (now (a .entry)) ⌝ }
+{
+    match scan_finite(a, rows, columns) {
+        Scan::AllFinite => Question::Passed,
+        Scan::At(i, j) => Question::No(Refusal::EntryNotFinite(i, j)),
+    }
+}
+
+// 7: is every entry of the direction finite?
+pub fn ask_direction(e: &[f64], rows: usize, columns: usize) -> Question
+    requires { ⌜ length (now e) ≡ rows * columns ⌝ }
+    ensures { λ r. ⌜ found r ≡ allFinite 7 columns (now (e .entry)) ⌝ }
+{
+    match scan_finite(e, rows, columns) {
+        Scan::AllFinite => Question::Passed,
+        Scan::At(i, j) => Question::No(Refusal::DirectionNotFinite(i, j)),
+    }
+}
+
 // 8: is the exponent finite?
 pub fn ask_exponent(p: f64) -> Question
     ensures { λ r. ⌜ found r ≡ askOf (finite p) 8 0 0 ⌝ }
 {
     ask(is_finite(p), Refusal::ExponentNotFinite)
+}
+
+// 10: is a matrix of order 1 a number above 0?
+pub fn ask_positive(rows: usize, a: &[f64]) -> Question
+    requires { ⌜ 0 < length (now a) ⌝ }
+    ensures { λ r. ⌜ found r ≡ only (eqb rows 1) (askOf (lt +zero (item (now (a .entry)) 0)) 10 0 0) ⌝ }
+{
+    if rows != 1 {
+        return Question::Passed;
+    }
+    ask(0.0 < a[0], Refusal::NotDefined)
+}
+
+// 10: is a matrix of order 1 a number that is at least 0?
+pub fn ask_nonnegative(rows: usize, a: &[f64]) -> Question
+    requires { ⌜ 0 < length (now a) ⌝ }
+    ensures { λ r. ⌜ found r ≡ only (eqb rows 1) (askOf (le +zero (item (now (a .entry)) 0)) 10 0 0) ⌝ }
+{
+    if rows != 1 {
+        return Question::Passed;
+    }
+    ask(0.0 <= a[0], Refusal::NotDefined)
 }
 
 // 11: is the order at least 2?
@@ -130,4 +177,19 @@ pub fn first_no(first: Question, next: Question) -> Question
         Question::Passed => next,
         Question::No(_) => first,
     }
+}
+
+// 1 and 2.
+pub fn ask_order(rows: usize, columns: usize) -> Question
+    ensures { λ r. ⌜ found r ≡ firstNo (askOf (ltb 0 rows) 1 0 0 ∷ askOf (eqb rows columns) 2 rows columns ∷ []) ⌝ }
+{
+    first_no(ask_rows(rows), ask_square(rows, columns))
+}
+
+// 5, of two slices and a workspace.
+pub fn ask_lengths(first: usize, second: usize, wanted: usize, room: usize) -> Question
+    ensures { λ r. ⌜ found r ≡ firstNo (exactly wanted first ∷ exactly wanted second ∷ roomy room ∷ []) ⌝ }
+{
+    let lengths = first_no(ask_length(first, wanted), ask_length(second, wanted));
+    first_no(lengths, ask_room(room))
 }

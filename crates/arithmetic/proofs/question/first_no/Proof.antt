@@ -21,7 +21,7 @@ returns c = let a = c .before .before .args in rw (c .enum-told .given .1) (sym 
 returns-2 : tie.Need-returns-2
 returns-2 c =
     let a = c .before .before .args in
-    stops (a .first) (found (a .first) ∷ []) (found (a .next) ∷ []) _ (single (a .first) _ refl) (c .enum-told2 .given .1)
+    stops (found (a .next) ∷ []) (single (a .first) refl) (c .enum-told2 .given .1) .asks
 
 pub first-no-spec : {M : Type 1} → statement M
 first-no-spec = tie.close (tie.spec enum-told enum-told-2 returns returns-2)
