@@ -10,7 +10,7 @@ ghost use lib.Ieee.Scale.{finite};
 ghost use Rattle.arithmetic.specs.Float.{+zero};
 ghost use Rattle.arithmetic.specs.Matrix.{item};
 ghost use Rattle.arithmetic.specs.Result.{passes, firstNo, only, ask as askOf};
-ghost use Rattle.arithmetic.specs.Questions.{atMost, exactly, roomy, allFinite};
+ghost use Rattle.arithmetic.specs.Questions.{atMost, exactly, roomy, allFinite, unary, binary, shapeQuestions, asked, ofCondExpm, ofFrechetExpm};
 ghost use Rattle.arithmetic.specs.Answers.{numbered, scanned, found};
 use crate::answer::Question;
 use crate::answer::Refusal;
@@ -192,4 +192,43 @@ pub fn ask_lengths(first: usize, second: usize, wanted: usize, room: usize) -> Q
 {
     let lengths = first_no(ask_length(first, wanted), ask_length(second, wanted));
     first_no(lengths, ask_room(room))
+}
+
+// 1, 2 and 4, for a matrix alone.
+pub fn ask_matrix_order(rows: usize, columns: usize) -> Question
+    ensures { λ r. ⌜ found r ≡ firstNo (askOf (ltb 0 rows) 1 0 0 ∷ askOf (eqb rows columns) 2 rows columns ∷ atMost 8 rows ∷ []) ⌝ }
+{
+    first_no(ask_order(rows, columns), ask_at_most(rows, 8))
+}
+
+// 1, 2, 4 and 5, for a matrix and an output.
+pub fn ask_shape(rows: usize, columns: usize, a: &[f64], out: usize, room: usize) -> Question
+    ensures { λ r. ⌜ found r ≡ firstNo (shapeQuestions ofCondExpm (unary rows columns (now (a .entry)) (out ∷ []) room)) ⌝ }
+{
+    let order = ask_matrix_order(rows, columns);
+    let Question::Passed = order else {
+        return order;
+    };
+    ask_lengths(a.len(), out, rows * columns, room)
+}
+
+// 1 to 4, for a matrix and a direction of `height` rows and `width` columns.
+pub fn ask_direction_order(rows: usize, columns: usize, height: usize, width: usize) -> Question
+    ensures { λ r. ⌜ found r ≡ firstNo (askOf (ltb 0 rows) 1 0 0 ∷ askOf (eqb rows columns) 2 rows columns ∷ askOf (eqb height rows && eqb width rows) 3 height width ∷ atMost 8 rows ∷ []) ⌝ }
+{
+    let fits = first_no(ask_direction_fits(rows, height, width), ask_at_most(rows, 8));
+    first_no(ask_order(rows, columns), fits)
+}
+
+// 1 to 5, for a matrix, a direction and two outputs.
+pub fn ask_direction_shape(rows: usize, columns: usize, a: &[f64], height: usize, width: usize, e: &[f64], first: usize, second: usize, room: usize) -> Question
+    ensures { λ r. ⌜ found r ≡ firstNo (shapeQuestions ofFrechetExpm (binary rows columns (now (a .entry)) height width (now (e .entry)) (first ∷ second ∷ []) room)) ⌝ }
+{
+    let order = ask_direction_order(rows, columns, height, width);
+    let Question::Passed = order else {
+        return order;
+    };
+    let matrix = ask_length(a.len(), rows * columns);
+    let companion = ask_length(e.len(), height * width);
+    first_no(first_no(matrix, companion), ask_lengths(first, second, rows * columns, room))
 }
