@@ -10,7 +10,7 @@ ghost use lib.Ieee.Scale.{finite};
 ghost use Rattle.arithmetic.specs.Float.{+zero};
 ghost use Rattle.arithmetic.specs.Matrix.{item};
 ghost use Rattle.arithmetic.specs.Result.{passes, firstNo, only, ask as askOf};
-ghost use Rattle.arithmetic.specs.Questions.{atMost, exactly, roomy, allFinite, unary, binary, shapeQuestions, asked, ofCondExpm, ofFrechetExpm};
+ghost use Rattle.arithmetic.specs.Questions.{atMost, exactly, roomy, allFinite, unary, powered, binary, shapeQuestions, asked, ofExpm, ofLogm, ofSqrtm, ofPowm, ofFrechetExpm, ofFrechetLogm, ofFrechetSqrtm, ofCondExpm};
 ghost use Rattle.arithmetic.specs.Answers.{numbered, scanned, found};
 use crate::answer::Question;
 use crate::answer::Refusal;
@@ -216,12 +216,25 @@ pub fn ask_shape(rows: usize, columns: usize, a: &[f64], out: usize, room: usize
 pub fn ask_direction_order(rows: usize, columns: usize, height: usize, width: usize) -> Question
     ensures { λ r. ⌜ found r ≡ firstNo (askOf (ltb 0 rows) 1 0 0 ∷ askOf (eqb rows columns) 2 rows columns ∷ askOf (eqb height rows && eqb width rows) 3 height width ∷ atMost 8 rows ∷ []) ⌝ }
 {
-    let fits = first_no(ask_direction_fits(rows, height, width), ask_at_most(rows, 8));
+    let fits = first_no(
+        ask_direction_fits(rows, height, width),
+        ask_at_most(rows, 8),
+    );
     first_no(ask_order(rows, columns), fits)
 }
 
 // 1 to 5, for a matrix, a direction and two outputs.
-pub fn ask_direction_shape(rows: usize, columns: usize, a: &[f64], height: usize, width: usize, e: &[f64], first: usize, second: usize, room: usize) -> Question
+pub fn ask_direction_shape(
+    rows: usize,
+    columns: usize,
+    a: &[f64],
+    height: usize,
+    width: usize,
+    e: &[f64],
+    first: usize,
+    second: usize,
+    room: usize,
+) -> Question
     ensures { λ r. ⌜ found r ≡ firstNo (shapeQuestions ofFrechetExpm (binary rows columns (now (a .entry)) height width (now (e .entry)) (first ∷ second ∷ []) room)) ⌝ }
 {
     let order = ask_direction_order(rows, columns, height, width);
@@ -230,5 +243,141 @@ pub fn ask_direction_shape(rows: usize, columns: usize, a: &[f64], height: usize
     };
     let matrix = ask_length(a.len(), rows * columns);
     let companion = ask_length(e.len(), height * width);
-    first_no(first_no(matrix, companion), ask_lengths(first, second, rows * columns, room))
+    first_no(
+        first_no(matrix, companion),
+        ask_lengths(first, second, rows * columns, room),
+    )
+}
+
+// 10 and 11 of a logarithm.
+pub fn ask_logarithm(rows: usize, a: &[f64]) -> Question
+    requires { ⌜ 0 < length (now a) ⌝ }
+    ensures { λ r. ⌜ found r ≡ firstNo (only (eqb rows 1) (askOf (lt +zero (item (now (a .entry)) 0)) 10 0 0) ∷ askOf (leb 2 rows) 11 0 0 ∷ []) ⌝ }
+{
+    first_no(ask_positive(rows, a), ask_from_two(rows))
+}
+
+// ---- all that a function asks before it begins
+
+// 1 to 6, for a matrix and an output: these every function of one matrix asks.
+pub fn ask_matrix(rows: usize, columns: usize, a: &[f64], out: usize, room: usize) -> Question
+    ensures { λ r. ⌜ found r ≡ asked ofCondExpm (unary rows columns (now (a .entry)) (out ∷ []) room) ⌝ }
+{
+    let shape = ask_shape(rows, columns, a, out, room);
+    let Question::Passed = shape else {
+        return shape;
+    };
+    ask_entries(a, rows, columns)
+}
+
+// Of expm, cosm and sinm.
+pub fn ask_expm(rows: usize, columns: usize, a: &[f64], out: usize, room: usize) -> Question
+    ensures { λ r. ⌜ found r ≡ asked ofExpm (unary rows columns (now (a .entry)) (out ∷ []) room) ⌝ }
+{
+    let matrix = ask_matrix(rows, columns, a, out, room);
+    let Question::Passed = matrix else {
+        return matrix;
+    };
+    ask_from_two(rows)
+}
+
+pub fn ask_logm(rows: usize, columns: usize, a: &[f64], out: usize, room: usize) -> Question
+    ensures { λ r. ⌜ found r ≡ asked ofLogm (unary rows columns (now (a .entry)) (out ∷ []) room) ⌝ }
+{
+    let matrix = ask_matrix(rows, columns, a, out, room);
+    let Question::Passed = matrix else {
+        return matrix;
+    };
+    ask_logarithm(rows, a)
+}
+
+pub fn ask_sqrtm(rows: usize, columns: usize, a: &[f64], out: usize, room: usize) -> Question
+    ensures { λ r. ⌜ found r ≡ asked ofSqrtm (unary rows columns (now (a .entry)) (out ∷ []) room) ⌝ }
+{
+    let matrix = ask_matrix(rows, columns, a, out, room);
+    let Question::Passed = matrix else {
+        return matrix;
+    };
+    ask_nonnegative(rows, a)
+}
+
+pub fn ask_powm(rows: usize, columns: usize, a: &[f64], p: f64, out: usize, room: usize) -> Question
+    ensures { λ r. ⌜ found r ≡ asked ofPowm (powered rows columns (now (a .entry)) p (out ∷ []) room) ⌝ }
+{
+    let matrix = ask_matrix(rows, columns, a, out, room);
+    let Question::Passed = matrix else {
+        return matrix;
+    };
+    first_no(ask_exponent(p), ask_from_two(rows))
+}
+
+// The matrix's own length stands for that of an output, which there is not.
+pub fn ask_cond_expm(rows: usize, columns: usize, a: &[f64], room: usize) -> Question
+    ensures { λ r. ⌜ found r ≡ asked ofCondExpm (unary rows columns (now (a .entry)) [] room) ⌝ }
+{
+    ask_matrix(rows, columns, a, a.len(), room)
+}
+
+// 1 to 7: these every function of a matrix and a direction asks.
+pub fn ask_frechet_expm(
+    rows: usize,
+    columns: usize,
+    a: &[f64],
+    height: usize,
+    width: usize,
+    e: &[f64],
+    first: usize,
+    second: usize,
+    room: usize,
+) -> Question
+    ensures { λ r. ⌜ found r ≡ asked ofFrechetExpm (binary rows columns (now (a .entry)) height width (now (e .entry)) (first ∷ second ∷ []) room) ⌝ }
+{
+    let shape = ask_direction_shape(rows, columns, a, height, width, e, first, second, room);
+    let Question::Passed = shape else {
+        return shape;
+    };
+    first_no(
+        ask_entries(a, rows, columns),
+        ask_direction(e, height, width),
+    )
+}
+
+pub fn ask_frechet_logm(
+    rows: usize,
+    columns: usize,
+    a: &[f64],
+    height: usize,
+    width: usize,
+    e: &[f64],
+    first: usize,
+    second: usize,
+    room: usize,
+) -> Question
+    ensures { λ r. ⌜ found r ≡ asked ofFrechetLogm (binary rows columns (now (a .entry)) height width (now (e .entry)) (first ∷ second ∷ []) room) ⌝ }
+{
+    let both = ask_frechet_expm(rows, columns, a, height, width, e, first, second, room);
+    let Question::Passed = both else {
+        return both;
+    };
+    ask_logarithm(rows, a)
+}
+
+pub fn ask_frechet_sqrtm(
+    rows: usize,
+    columns: usize,
+    a: &[f64],
+    height: usize,
+    width: usize,
+    e: &[f64],
+    first: usize,
+    second: usize,
+    room: usize,
+) -> Question
+    ensures { λ r. ⌜ found r ≡ asked ofFrechetSqrtm (binary rows columns (now (a .entry)) height width (now (e .entry)) (first ∷ second ∷ []) room) ⌝ }
+{
+    let both = ask_frechet_expm(rows, columns, a, height, width, e, first, second, room);
+    let Question::Passed = both else {
+        return both;
+    };
+    ask_nonnegative(rows, a)
 }
