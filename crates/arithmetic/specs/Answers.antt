@@ -1,4 +1,5 @@
 -- The answers' enums as results: document 01's number and details for each case. Definitions only.
+use Prim.Native.Nat.{ℕ}
 use Rattle.arithmetic.specs.Result.{Result, refused, done, passes}
 use Rattle.arithmetic.specs.declared.answer.Refusal.{Refusal}
 use Rattle.arithmetic.specs.declared.answer.Refusal.the-variants.{EmptyMatrix, NotSquare, CompanionShape, TooLarge, WrongLength, EntryNotFinite, DirectionNotFinite, ExponentNotFinite, PivotOutOfRange, NotDefined, OrderOne, NormNotFinite, NotConverged, SingularColumn}
@@ -6,6 +7,8 @@ use Rattle.arithmetic.specs.declared.answer.Outcome.{Outcome}
 use Rattle.arithmetic.specs.declared.answer.Outcome.the-variants.{Done, Refused}
 use Rattle.arithmetic.specs.declared.answer.Question.{Question}
 use Rattle.arithmetic.specs.declared.answer.Question.the-variants.{Passed, No}
+use Rattle.arithmetic.specs.declared.question.Scan.{Scan}
+use Rattle.arithmetic.specs.declared.question.Scan.the-variants.{AllFinite, At}
 
 abbrev pub numbered : Refusal → Result (Unit {0})
 numbered EmptyMatrix = refused 1 0 0
@@ -27,6 +30,11 @@ numbered (SingularColumn k) = refused 14 k 0
 abbrev pub reported : Outcome → Result (Unit {0})
 reported (Done s) = done s tt
 reported (Refused x) = numbered x
+
+-- what question `number`, 6 or 7, finds where a scan gave this
+abbrev pub scanned : ℕ → Scan → Result (Unit {0})
+scanned number AllFinite = passes
+scanned number (At i j) = refused number i j
 
 -- what a question finds
 abbrev pub found : Question → Result (Unit {0})

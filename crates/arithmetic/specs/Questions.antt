@@ -26,20 +26,23 @@ pub record Call : Type 0 where
   pub outputs : List ℕ
   pub room : ℕ
 
--- a matrix alone, and two
-abbrev pub unary : ℕ → ℕ → List Float → List ℕ → ℕ → Call
-unary r c a outs w = record {
+-- a matrix with an exponent, a matrix alone, and two
+abbrev pub powered : ℕ → ℕ → List Float → Float → List ℕ → ℕ → Call
+powered r c a p outs w = record {
   rows = r;
   columns = c;
   matrix = a;
   companionRows = 0;
   companionColumns = 0;
   companion = [];
-  exponent = +zero;
+  exponent = p;
   pivots = [];
   outputs = outs;
   room = w;
 }
+
+abbrev pub unary : ℕ → ℕ → List Float → List ℕ → ℕ → Call
+unary r c a outs w = powered r c a +zero outs w
 
 abbrev pub binary : ℕ → ℕ → List Float → ℕ → ℕ → List Float → List ℕ → ℕ → Call
 binary r c a r' c' b outs w = record {
@@ -81,7 +84,7 @@ pub record Profile : Type 0 where
   pub pivoted : Pivots
   pub worked : Bool
   pub finiteOnly : Bool
-  pub powered : Bool
+  pub raised : Bool
   pub domain : Domain
   pub fromTwo : Bool
 
@@ -96,12 +99,10 @@ companionFits second c = true
 companionFits secondSquare c = eqb (c .companionRows) (c .companionColumns)
 
 -- 4: the numbers, in their order, and the limit
-unfoldable pub atMost : ℕ → ℕ → Result (Unit {0})
-unfolding ask
+abbrev pub atMost : ℕ → ℕ → Result (Unit {0})
 atMost limit x = ask (leb x limit) 4 x limit
 
 unfoldable pub limited : Limits → Call → List (Result (Unit {0}))
-unfolding atMost
 limited order8 c = atMost 8 (c .rows) ∷ []
 limited order64 c = atMost 64 (c .rows) ∷ []
 limited solve64 c = atMost 64 (c .rows) ∷ atMost 64 (c .companionColumns) ∷ []
@@ -109,8 +110,7 @@ limited products64 c = map (atMost 64)
     (c .rows ∷ c .columns ∷ c .companionRows ∷ c .companionColumns ∷ c .rows * c .companionRows ∷ c .columns * c .companionColumns ∷ [])
 
 -- 5: exact lengths of matrix, companion, pivots, outputs
-unfoldable pub exactly : ℕ → ℕ → Result (Unit {0})
-unfolding ask
+abbrev pub exactly : ℕ → ℕ → Result (Unit {0})
 exactly wanted x = ask (eqb x wanted) 5 x wanted
 
 unfoldable pub hasCompanion : Companion → Bool
@@ -134,7 +134,7 @@ outputLength second c = (c .rows * c .companionRows) * (c .columns * c .companio
 outputLength secondSquare c = (c .rows * c .companionRows) * (c .columns * c .companionColumns)
 
 unfoldable pub lengths : Profile → Call → List (Result (Unit {0}))
-unfolding only exactly hasCompanion hasPivots outputLength
+unfolding hasCompanion hasPivots outputLength
 lengths p c =
     exactly (c .rows * c .columns) (length (c .matrix))
     ∷ only (hasCompanion (p .beside)) (exactly (c .companionRows * c .companionColumns) (length (c .companion)))
@@ -142,8 +142,7 @@ lengths p c =
     ∷ map (exactly (outputLength (p .beside) c)) (c .outputs)
 
 -- 5 again: the workspace has at least 8,192 numbers
-unfoldable pub roomy : ℕ → Result (Unit {0})
-unfolding ask
+abbrev pub roomy : ℕ → Result (Unit {0})
 roomy x = ask (leb 8192 x) 5 x 8192
 
 -- 6 and 7: the first entry that is not finite, row by row, by its row and column
@@ -178,16 +177,16 @@ pivotsNamed without c = passes
 pivotsNamed lent c = passes
 pivotsNamed given c = pivotsFrom (c .rows) 0 (c .pivots)
 
--- 10: the number above 0, or at least 0
-unfoldable pub inDomain : Domain → Float → Bool
-inDomain anywhere x = true
-inDomain positive x = lt +zero x
-inDomain nonnegative x = le +zero x
+-- 10: of order 1, the number above 0, or at least 0
+abbrev pub inDomain : Domain → Call → Result (Unit {0})
+inDomain anywhere c = passes
+inDomain positive c = only (eqb (c .rows) 1) (ask (lt +zero (item (c .matrix) 0)) 10 0 0)
+inDomain nonnegative c = only (eqb (c .rows) 1) (ask (le +zero (item (c .matrix) 0)) 10 0 0)
 
 -- ---- all of them in order: first shapes and lengths, 1 to 5, then the numbers, 6 to 11
 
 unfoldable pub shapeQuestions : Profile → Call → List (Result (Unit {0}))
-unfolding only ask companionFits limited lengths roomy
+unfolding companionFits limited lengths
 shapeQuestions p c =
     only (p .nonempty) (ask (ltb 0 (c .rows)) 1 0 0)
     ∷ only (p .square) (ask (eqb (c .rows) (c .columns)) 2 (c .rows) (c .columns))
@@ -198,13 +197,13 @@ shapeQuestions p c =
     ∷ []
 
 unfoldable pub numberQuestions : Profile → Call → List (Result (Unit {0}))
-unfolding only ask allFinite directed pivotsNamed inDomain
+unfolding allFinite directed pivotsNamed
 numberQuestions p c =
     only (p .finiteOnly) (allFinite 6 (c .columns) (c .matrix))
     ∷ only (directed (p .beside)) (allFinite 7 (c .companionColumns) (c .companion))
-    ∷ only (p .powered) (ask (finite (c .exponent)) 8 0 0)
+    ∷ only (p .raised) (ask (finite (c .exponent)) 8 0 0)
     ∷ pivotsNamed (p .pivoted) c
-    ∷ only (eqb (c .rows) 1) (ask (inDomain (p .domain) (item (c .matrix) 0)) 10 0 0)
+    ∷ inDomain (p .domain) c
     ∷ only (p .fromTwo) (ask (leb 2 (c .rows)) 11 0 0)
     ∷ []
 
@@ -222,7 +221,7 @@ answer p c r = asked p c >>= λ _. r
 
 -- the functions with a code on a sheet: order 1 to 8, finite entries, a workspace
 abbrev pub coded : Companion → Bool → Domain → Bool → Profile
-coded beside powered domain fromTwo = record {
+coded beside raised domain fromTwo = record {
   nonempty = true;
   square = true;
   beside = beside;
@@ -230,7 +229,7 @@ coded beside powered domain fromTwo = record {
   pivoted = without;
   worked = true;
   finiteOnly = true;
-  powered = powered;
+  raised = raised;
   domain = domain;
   fromTwo = fromTwo;
 }
@@ -245,7 +244,7 @@ uncoded square beside limits pivoted worked = record {
   pivoted = pivoted;
   worked = worked;
   finiteOnly = false;
-  powered = false;
+  raised = false;
   domain = anywhere;
   fromTwo = false;
 }

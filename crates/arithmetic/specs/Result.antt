@@ -41,11 +41,11 @@ abbrev pub passes : Result (Unit {0})
 passes = done 0 tt
 
 -- b, or else refusal k with the details x and y
-unfoldable pub ask : Bool → ℕ → ℕ → ℕ → Result (Unit {0})
+abbrev pub ask : Bool → ℕ → ℕ → ℕ → Result (Unit {0})
 ask b k x y = cond b passes (refused k x y)
 
 -- a question that is asked only where b holds
-unfoldable pub only : Bool → Result (Unit {0}) → Result (Unit {0})
+abbrev pub only : Bool → Result (Unit {0}) → Result (Unit {0})
 only b q = cond b q passes
 
 -- the first refusal among several questions

@@ -1,4 +1,7 @@
 // What a call answers: done, with its halvings, or refused, with the details of the refusal.
+ghost use mathlib.Core.Path.{_≡_};
+ghost use Rattle.arithmetic.specs.Result.{done as doneWith};
+ghost use Rattle.arithmetic.specs.Answers.{numbered, reported};
 
 // Why a call is refused. specs/Answers.antt gives each case its number.
 pub enum Refusal {
@@ -32,4 +35,22 @@ pub struct Answer {
 pub enum Question {
     Passed,
     No(Refusal),
+}
+
+// The answer that carries a refusal.
+pub fn refused(why: Refusal) -> Answer
+    ensures { λ r. ⌜ reported (r .outcome) ≡ numbered why ⌝ }
+{
+    Answer {
+        outcome: Outcome::Refused(why),
+    }
+}
+
+// The answer of a call that is done.
+pub fn done(halvings: u64) -> Answer
+    ensures { λ r. ⌜ reported (r .outcome) ≡ doneWith halvings tt ⌝ }
+{
+    Answer {
+        outcome: Outcome::Done { halvings },
+    }
 }

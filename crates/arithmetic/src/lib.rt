@@ -4,5 +4,6 @@ pub mod float;
 pub mod matrix;
 pub mod norm;
 pub mod product;
+pub mod question;
 pub mod root;
 pub mod workspace;
