@@ -3,7 +3,7 @@ use Prim.Native.Nat.{ℕ}
 use mathlib.Core.List.{List, [], _∷_}
 use lib.Ieee.{Float, Format}
 use Rattle.arithmetic.specs.Result.{Result, done}
-use Rattle.arithmetic.specs.Questions.{unary, binary, answer, ofExpm, ofLogm, ofSqrtm, ofPowm, ofCosm, ofSinm, ofFrechetExpm, ofFrechetLogm, ofFrechetSqrtm, ofCondExpm, ofKron, ofKronSum}
+use Rattle.arithmetic.specs.Questions.{unary, powered, binary, answer, ofExpm, ofLogm, ofSqrtm, ofPowm, ofCosm, ofSinm, ofFrechetExpm, ofFrechetLogm, ofFrechetSqrtm, ofCondExpm, ofKron, ofKronSum}
 use Rattle.functions.specs.Roots.{squareRoot}
 use Rattle.functions.specs.Logarithm.{logarithm}
 use Rattle.functions.specs.Powers.{expM, powerM}
@@ -30,18 +30,7 @@ module _ (f : Format) (r c : ℕ) (a : List Float) (out w : ℕ) where
 
   -- the power p
   unfoldable pub powm : Float → Result (List Float)
-  powm p = answer ofPowm (record {
-    rows = r;
-    columns = c;
-    matrix = a;
-    companionRows = 0;
-    companionColumns = 0;
-    companion = [];
-    exponent = p;
-    pivots = [];
-    outputs = out ∷ [];
-    room = w;
-  }) (powerM f r a p)
+  powm p = answer ofPowm (powered r c a p (out ∷ []) w) (powerM f r a p)
 
 -- its three numbers are returned, and no output is lent
 unfoldable pub condExpm : Format → ℕ → ℕ → List Float → ℕ → Result Condition

@@ -7,8 +7,8 @@ use Rattle.arithmetic.specs.Root.{rootDigits, isqrt, sqrtUnits, sqrtOf}
 use Rattle.arithmetic.specs.Matrix.{tab, grid, at, column}
 use Rattle.arithmetic.specs.Product.{sum, dot, mulM, scaleM, timesM, accumulateM, addMultipleM, deductM, zeroM, addM, subM, meanM, differenceQuotientM, diagonalEntry, diagonalM, identityM, minusIdentityEntry, minusIdentityM, transposeM, squared}
 use Rattle.arithmetic.specs.Norm.{sumOfMagnitudes, largest, norm1, sumOfSquares, frobenius, difference, trace}
-use Rattle.arithmetic.specs.Result.{_>>=_, ask, only, firstNo}
-use Rattle.arithmetic.specs.Questions.{companionFits, atMost, limited, exactly, hasCompanion, hasPivots, outputLength, lengths, roomy, firstNonfinite, placed, allFinite, directed, pivotsFrom, pivotsNamed, inDomain, shapeQuestions, numberQuestions, asked, answer}
+use Rattle.arithmetic.specs.Result.{_>>=_, firstNo}
+use Rattle.arithmetic.specs.Questions.{companionFits, limited, hasCompanion, hasPivots, outputLength, lengths, firstNonfinite, placed, allFinite, directed, pivotsFrom, pivotsNamed, shapeQuestions, numberQuestions, asked, answer}
 use Rattle.lu.specs.Lu.{pivotAmong, pivotRow, tolerance, pivotRefused, exchange, swapRows, multiplier, reduced, eliminated, luAt, luPivot, luFrom, luOutcome, luFactors, luPivots}
 use Rattle.lu.specs.Solve.{swapItems, permuted, forwardStep, forward, backStep, back, solved, swaps, product, determinantOf, solvedMatrix, solution, quotient, division, inverse}
 use Rattle.lu.specs.Calls.{compute, solve, determinant}
@@ -23,5 +23,5 @@ use Rattle.functions.specs.Derivatives.{blockQuarters, frechetExpM, logStep, fr
 use Rattle.functions.specs.Calls.{expm, logm, sqrtm, cosm, sinm, powm, condExpm, frechetExpm, frechetLogm, frechetSqrtm, kron, kronSum}
 
 unfoldable pub all : Bool
-unfolding trailingZeros span climb size odd units round neg total add sub mul div lt eq le ofInt toSigned ofFields ofBits toBits constant magnitude larger halvings roundAway nearInteger integerOf rootDigits isqrt sqrtUnits sqrtOf tab grid at column sum dot mulM scaleM timesM accumulateM addMultipleM deductM zeroM addM subM meanM differenceQuotientM diagonalEntry diagonalM identityM minusIdentityEntry minusIdentityM transposeM squared sumOfMagnitudes largest norm1 sumOfSquares frobenius difference trace _>>=_ ask only firstNo companionFits atMost limited exactly hasCompanion hasPivots outputLength lengths roomy firstNonfinite placed allFinite directed pivotsFrom pivotsNamed inDomain shapeQuestions numberQuestions asked answer pivotAmong pivotRow tolerance pivotRefused exchange swapRows multiplier reduced eliminated luAt luPivot luFrom luOutcome luFactors luPivots swapItems permuted forwardStep forward backStep back solved swaps product determinantOf solvedMatrix solution quotient division inverse compute solve determinant power nextCoefficient coefficient flipped combinationTo combination numerator denominator pade scaled exponential block quarterRow quarter kronM kronSumM advance after rootTolerance newtonNext newtonStep newtonScale newtonStart newton newtonRoot denmanBeaversNext denmanBeaversStep denmanBeavers squareRoot near isFar rootingStep rooting seriesCoefficient seriesStep series logarithm halvingsFor expM bitPower wholePower fractionalPower isWhole powerM oneOver cosineTo6 cosineTo8 cosineBeside sineTo7 cosineDoubled sineDoubled cosineAt sineAt trigonometricHalvings cosM sinM blockQuarters frechetExpM logStep frechetLogM sylvesterEntry sylvesterMatrix sylvester scalarDerivative rootDerivative frechetSqrtM unitDirection conditionOf conditioned condExpM expm logm sqrtm cosm sinm powm condExpm frechetExpm frechetLogm frechetSqrtm kron kronSum
+unfolding trailingZeros span climb size odd units round neg total add sub mul div lt eq le ofInt toSigned ofFields ofBits toBits constant magnitude larger halvings roundAway nearInteger integerOf rootDigits isqrt sqrtUnits sqrtOf tab grid at column sum dot mulM scaleM timesM accumulateM addMultipleM deductM zeroM addM subM meanM differenceQuotientM diagonalEntry diagonalM identityM minusIdentityEntry minusIdentityM transposeM squared sumOfMagnitudes largest norm1 sumOfSquares frobenius difference trace _>>=_ firstNo companionFits limited hasCompanion hasPivots outputLength lengths firstNonfinite placed allFinite directed pivotsFrom pivotsNamed shapeQuestions numberQuestions asked answer pivotAmong pivotRow tolerance pivotRefused exchange swapRows multiplier reduced eliminated luAt luPivot luFrom luOutcome luFactors luPivots swapItems permuted forwardStep forward backStep back solved swaps product determinantOf solvedMatrix solution quotient division inverse compute solve determinant power nextCoefficient coefficient flipped combinationTo combination numerator denominator pade scaled exponential block quarterRow quarter kronM kronSumM advance after rootTolerance newtonNext newtonStep newtonScale newtonStart newton newtonRoot denmanBeaversNext denmanBeaversStep denmanBeavers squareRoot near isFar rootingStep rooting seriesCoefficient seriesStep series logarithm halvingsFor expM bitPower wholePower fractionalPower isWhole powerM oneOver cosineTo6 cosineTo8 cosineBeside sineTo7 cosineDoubled sineDoubled cosineAt sineAt trigonometricHalvings cosM sinM blockQuarters frechetExpM logStep frechetLogM sylvesterEntry sylvesterMatrix sylvester scalarDerivative rootDerivative frechetSqrtM unitDirection conditionOf conditioned condExpM expm logm sqrtm cosm sinm powm condExpm frechetExpm frechetLogm frechetSqrtm kron kronSum
 all = true
