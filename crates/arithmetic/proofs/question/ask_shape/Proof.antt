@@ -1,7 +1,6 @@
 -- `ask_shape` meets its contract. Assumes nothing.
 use borrow.Author.Needs.{needs}
 use native.Mathlib.Omega.{arith}
-use Prim.Native.Nat.{_*_, _≤_}
 use denote.Ref.{now}
 use mathlib.Core.Bool.{false}
 use Rattle.arithmetic.specs.Float.{+zero}

@@ -10,7 +10,6 @@ use borrow.Author.Needs.{needs}
 use borrow.Author.Count.{below-more}
 use borrow.Author.Tests.{not-true, not-false}
 use Rattle.arithmetic.specs.Matrix.{item}
-use Rattle.arithmetic.specs.Answers.{scanned}
 use Rattle.arithmetic.specs.declared.question.Scan.the-variants.{AllFinite}
 use Rattle.arithmetic.proofs.MatrixLaws.{index-lt, more-rows}
 use Rattle.arithmetic.proofs.QuestionLaws.{scanned-at, scanned-none}
