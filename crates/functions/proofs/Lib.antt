@@ -2,3 +2,4 @@
 pub mod PadeLaws
 pub mod FirstOutput
 pub mod ExponentialLaws
+pub mod KroneckerLaws
