@@ -8,8 +8,9 @@ use native.Mathlib.Omega.{arith}
 use lib.Arith.{digits-div, digits-mod}
 use lib.ListN.{length}
 use lib.Ieee.{Float, Format, add, mul, nan}
+use Rattle.arithmetic.specs.Float.{one}
 use Rattle.arithmetic.specs.Matrix.{tab, grid, at, item, put}
-use Rattle.arithmetic.specs.Product.{unitEntry, identityM, addM}
+use Rattle.arithmetic.specs.Product.{diagonalEntry, identityM, addM}
 use Rattle.arithmetic.proofs.MatrixLaws.{length-tab, getD-tab, tab-is, length-grid, at-grid, grid-suc, grid-cong, grid-is, index-lt, row-end, row-lt, column-lt, more-rows}
 use Rattle.arithmetic.proofs.PartLaws.{length-put, put-append, put-all, put-no-row, put-grid-more}
 use Rattle.functions.specs.Kronecker.{kronM, kronSumM, kronEntry, kronSumEntry, blockRow}
@@ -117,5 +118,5 @@ sum-blocks f m a p b =
     sym (add-grid f (m * p) (λ i j. mul f (at m a (i / p) (j / p)) (at p (identityM p) (i % p) (j % p))) (λ i j. mul f (at m (identityM m) (i / p) (j / p)) (at p b (i % p) (j % p)))
     ∙ grid-cong (m * p) (m * p) _ (λ i j. kronSumEntry f m a p b (i / p) (j / p) (i % p) (j % p))
     (λ i j hi hj. ap₂ (λ (u v : Float). add f (mul f (at m a (i / p) (j / p)) u) (mul f v (at p b (i % p) (j % p))))
-    (at-grid p p unitEntry (i % p) (j % p) (column-lt m p i hi) (column-lt m p j hj))
-    (at-grid m m unitEntry (i / p) (j / p) (row-lt m p i hi) (row-lt m p j hj))))
+    (at-grid p p (diagonalEntry one) (i % p) (j % p) (column-lt m p i hi) (column-lt m p j hj))
+    (at-grid m m (diagonalEntry one) (i / p) (j / p) (row-lt m p i hi) (row-lt m p j hj))))

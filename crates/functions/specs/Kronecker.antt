@@ -2,8 +2,9 @@
 use Prim.Native.Nat.{ℕ, _*_, _/_, _%_}
 use mathlib.Core.List.{List}
 use lib.Ieee.{Float, Format, add, mul}
+use Rattle.arithmetic.specs.Float.{one}
 use Rattle.arithmetic.specs.Matrix.{at, grid}
-use Rattle.arithmetic.specs.Product.{unitEntry, identityM, addM}
+use Rattle.arithmetic.specs.Product.{diagonalEntry, identityM, addM}
 
 -- each entry of a, m by n, times all of b, p by q
 unfoldable pub kronM : Format → ℕ → ℕ → List Float → ℕ → ℕ → List Float → List Float
@@ -20,7 +21,7 @@ unfoldable pub kronEntry : Format → ℕ → List Float → ℕ → List Float 
 kronEntry f n a q b i j k l = mul f (at n a i j) (at q b k l)
 
 unfoldable pub kronSumEntry : Format → ℕ → List Float → ℕ → List Float → ℕ → ℕ → ℕ → ℕ → Float
-kronSumEntry f m a p b i j k l = add f (mul f (at m a i j) (unitEntry k l)) (mul f (unitEntry i j) (at p b k l))
+kronSumEntry f m a p b i j k l = add f (mul f (at m a i j) (diagonalEntry one k l)) (mul f (diagonalEntry one i j) (at p b k l))
 
 -- row k of the blocks (i, 0), (i, 1), .., side by side: its entry c, where block (i, j) has entry e i j k l at (k, l)
 unfoldable pub blockRow : ℕ → (ℕ → ℕ → ℕ → ℕ → Float) → ℕ → ℕ → ℕ → Float

@@ -3,10 +3,11 @@ ghost use mathlib.Core.Path.{_≡_};
 ghost use Prim.Native.Nat.{_+_, _*_, _<_, _≤_};
 ghost use lib.ListN.{length};
 ghost use lib.Ieee.{binary64, add, mul};
+ghost use Rattle.arithmetic.specs.Float.{one};
 ghost use Rattle.arithmetic.specs.Matrix.{tab, grid, at, put};
-ghost use Rattle.arithmetic.specs.Product.{unitEntry};
+ghost use Rattle.arithmetic.specs.Product.{diagonalEntry};
 ghost use Rattle.functions.specs.Kronecker.{kronM, kronSumM, kronEntry, kronSumEntry, blockRow};
-use arithmetic::workspace::unit_entry;
+use arithmetic::workspace::diagonal_entry;
 
 // Writes to y row k of the block s * b, where b has q columns.
 fn kron_part(out: &mut [f64], y: usize, s: f64, q: usize, b: &[f64], k: usize)
@@ -79,12 +80,12 @@ pub fn kron_into(m: usize, n: usize, a: &[f64], p: usize, q: usize, b: &[f64], o
 // Writes to y row k of the block s * I + d * b, where I and b are of order p.
 fn sum_part(out: &mut [f64], y: usize, s: f64, d: f64, p: usize, b: &[f64], k: usize)
     requires { ⌜ (y + p ≤ length (now out)) × (k * p + p ≤ length (now b)) ⌝ }
-    ensures { λ _. ⌜ now (out .exit) ≡ put (now (out .entry)) y (tab p (λ l. add binary64 (mul binary64 s (unitEntry k l)) (mul binary64 d (at p (now (b .entry)) k l)))) ⌝ }
+    ensures { λ _. ⌜ now (out .exit) ≡ put (now (out .entry)) y (tab p (λ l. add binary64 (mul binary64 s (diagonalEntry one k l)) (mul binary64 d (at p (now (b .entry)) k l)))) ⌝ }
 {
     let x = k * p;
     let mut l = 0;
     while l < p {
-        out[y + l] = s * unit_entry(k, l) + d * b[x + l];
+        out[y + l] = s * diagonal_entry(1.0, k, l) + d * b[x + l];
         l += 1;
     }
 }
@@ -98,7 +99,7 @@ fn sum_row(out: &mut [f64], y: usize, m: usize, a: &[f64], i: usize, p: usize, b
     let mut z = y;
     let mut j = 0;
     while j < m {
-        sum_part(out, z, a[x + j], unit_entry(i, j), p, b, k);
+        sum_part(out, z, a[x + j], diagonal_entry(1.0, i, j), p, b, k);
         z += p;
         j += 1;
     }

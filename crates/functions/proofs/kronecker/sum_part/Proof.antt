@@ -5,14 +5,16 @@ use mathlib.Core.Path.{_≡_, refl}
 use borrow.Author.Needs.{needs}
 use lib.ListN.{length, length-set}
 use lib.Ieee.{binary64, add, mul}
+use Rattle.arithmetic.specs.Float.{one}
 use Rattle.arithmetic.specs.Matrix.{tab, at, put}
-use Rattle.arithmetic.specs.Product.{unitEntry}
+use Rattle.arithmetic.specs.Product.{diagonalEntry}
+use Rattle.arithmetic.proofs.ProductLaws.{one-bits}
 use Rattle.arithmetic.proofs.PartLaws.{put-none, put-tab-more}
 use Rattle.functions.proofs.kronecker.sum_part.Statement.{statement}
 use Rattle.functions.proofs.kronecker.sum_part.Tie as tie
 
 abbrev Inv-loop : tie.InvT-loop
-Inv-loop out₀ y s d p b k x l₀ out l = (l ≤ p) × (length out ≡ length out₀) × (out ≡ put out₀ y (tab l (λ l. add binary64 (mul binary64 s (unitEntry k l)) (mul binary64 d (at p b k l)))))
+Inv-loop out₀ y s d p b k x l₀ out l = (l ≤ p) × (length out ≡ length out₀) × (out ≡ put out₀ y (tab l (λ l. add binary64 (mul binary64 s (diagonalEntry one k l)) (mul binary64 d (at p b k l)))))
 
 abbrev μ-loop : tie.MeasureT-loop
 μ-loop out₀ y s d p b k x l₀ out l = p - l
@@ -23,8 +25,8 @@ mul-x c = omega arith
 loop-holds : tie.Need-loop-holds Inv-loop μ-loop
 loop-holds c = (omega arith, refl, put-none _ _ _)
 
-unit-entry-requires : tie.Need-unit-entry-requires Inv-loop μ-loop
-unit-entry-requires c κs = search needs
+diagonal-entry-requires : tie.Need-diagonal-entry-requires Inv-loop μ-loop
+diagonal-entry-requires c κs = search needs
 
 add-out : tie.Need-add-out Inv-loop μ-loop
 add-out c = omega arith
@@ -54,7 +56,7 @@ loop-again : tie.Need-loop-again Inv-loop μ-loop
 unfolding at
 loop-again c =
     let l = c .before .before .before .loop in
-    (omega arith, simp length-set (l .inv .1), rw (c .before .unit-entry .ensures, l .inv .2) (put-tab-more _ _ _ _))
+    (omega arith, simp length-set (l .inv .1), rw (c .before .diagonal-entry .ensures, one-bits, l .inv .2) (put-tab-more _ _ _ _))
 
 same-length : tie.Need-same-length Inv-loop μ-loop
 same-length c = omega arith
@@ -72,7 +74,7 @@ sum-part-spec =
     μ-loop
     mul-x
     loop-holds
-    unit-entry-requires
+    diagonal-entry-requires
     add-out
     mul-out
     shared-slice-read-out

@@ -5,6 +5,7 @@ use mathlib.Core.Path.{_≡_, ap, _∙_}
 use borrow.Author.Needs.{needs}
 use lib.Ieee.{binary64}
 use Rattle.arithmetic.specs.Matrix.{at, put}
+use Rattle.arithmetic.proofs.ProductLaws.{one-bits}
 use Rattle.arithmetic.proofs.MatrixLaws.{row-end}
 use Rattle.functions.specs.Kronecker.{kronSumEntry}
 use Rattle.functions.proofs.KroneckerLaws.{Filled, filled-none, filled-more, row-parts}
@@ -32,8 +33,8 @@ mul-sum-part c = omega arith
 shared-slice-read-sum-part : tie.Need-shared-slice-read-sum-part Inv-loop μ-loop
 shared-slice-read-sum-part c = omega arith
 
-unit-entry-requires : tie.Need-unit-entry-requires Inv-loop μ-loop
-unit-entry-requires c κs = search needs
+diagonal-entry-requires : tie.Need-diagonal-entry-requires Inv-loop μ-loop
+diagonal-entry-requires c κs = search needs
 
 sum-part-requires : tie.Need-sum-part-requires Inv-loop μ-loop
 sum-part-requires c κs =
@@ -60,7 +61,7 @@ unfolding kronSumEntry at
 loop-again c =
     let at-loop = c .before .before .before .before .before .before .before in
     let a = at-loop .before .before .before .before .args in
-    let e = rw (c .before .before .before .unit-entry .ensures) at (c .before .before .sum-part .ensures) in
+    let e = rw (c .before .before .before .diagonal-entry .ensures, one-bits) at (c .before .before .sum-part .ensures) in
     (omega arith, filled-more _ _ _ _ (λ j. kronSumEntry binary64 (a .m) (a .a .now) (a .p) (a .b .now) (a .i) j (a .k)) _ _ _ (at-loop .loop .inv .1) e)
 
 same-length : tie.Need-same-length Inv-loop μ-loop
@@ -84,7 +85,7 @@ sum-row-spec =
     add-sum-part
     mul-sum-part
     shared-slice-read-sum-part
-    unit-entry-requires
+    diagonal-entry-requires
     sum-part-requires
     add-z
     add-j
