@@ -21,9 +21,9 @@ use Rattle.arithmetic.proofs.ProductLaws.{length-zeroM, at-tab, length-accumula
 use Rattle.arithmetic.proofs.Slots.{only-trans, only-store, length-slot, only-refl}
 use Rattle.arithmetic.proofs.States.{held, Held, listed, State, start, step-identity, step-zero, step-accumulate, step-call, state-listed, holds-as, held-at, member-among, step-scale, step-copy-in, step-copy, step-mult, Holds}
 use Rattle.lu.specs.Lu.{luFactors, luPivots, luAt, luOutcome}
-use Rattle.lu.specs.Solve.{divided, quotient, solvedMatrix}
+use Rattle.lu.specs.Solve.{standIn, divided, quotient, solvedMatrix}
 use Rattle.lu.proofs.LuLaws.{length-luAt}
-use Rattle.functions.specs.Exponential.{coefficient, nextCoefficient, nextPower, power, combinationTo, standIn, flipped, flip, Raised, Summed, Exponentiated, numerator, denominator, combination, exponential, pade, scaled}
+use Rattle.functions.specs.Exponential.{coefficient, nextCoefficient, nextPower, power, combinationTo, flipped, flip, Raised, Summed, Exponentiated, numerator, denominator, combination, exponential, pade, scaled}
 
 -- ---- one term more
 

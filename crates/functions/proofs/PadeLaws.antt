@@ -18,12 +18,12 @@ use Rattle.arithmetic.proofs.MatrixLaws.{at-grid, item-column, length-grid}
 use Rattle.arithmetic.proofs.ProductLaws.{dot-cong, length-squared}
 use Rattle.arithmetic.proofs.Corner.{Corner, product-corner, identity-corner, dot-zero, dot-fits, dot-plus, scale-corner, squared-corner}
 use Rattle.lu.specs.Lu.{luFactors, luPivots, luOutcome}
-use Rattle.lu.specs.Solve.{quotient, solution, solvedMatrix}
+use Rattle.lu.specs.Solve.{standIn, quotient, solution, solvedMatrix}
 use Rattle.lu.specs.Finite.{FiniteFactors, FiniteSolution}
 use Rattle.lu.proofs.Tolerance.{tolerance-mono}
 use Rattle.lu.proofs.Factors.{outcome-corner}
 use Rattle.lu.proofs.Solution.{Sound, Top, solution-top}
-use Rattle.functions.specs.Exponential.{power, combination, numerator, denominator, coefficient, flipped, pade, standIn, exponential, scaled, combinationTo}
+use Rattle.functions.specs.Exponential.{power, combination, numerator, denominator, coefficient, flipped, pade, exponential, scaled, combinationTo}
 use Rattle.functions.specs.Finite.{FinitePowers, FiniteCombination, FinitePade, FiniteRun}
 
 module _ (f : Format) (n N : ℕ) (n≤N : n ≤ N) where

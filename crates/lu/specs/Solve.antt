@@ -102,6 +102,11 @@ unfoldable pub quotient : Format → ℕ → List Float → List Float → List 
 unfolding solvedMatrix
 quotient f n d b = solvedMatrix f n n (luFactors f n d) (luPivots f n d) b
 
+-- the quotient q, or b in its place where LU refuses
+abbrev pub standIn : {A : Type 0} → LuOutcome → A → A → A
+standIn Factored q b = q
+standIn (Singular k) q b = b
+
 -- where LU accepts the matrix
 abbrev pub whereFactored : {A : Type 0} → LuOutcome → A → Option A
 whereFactored Factored x = some x

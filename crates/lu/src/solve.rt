@@ -3,8 +3,10 @@ ghost use mathlib.Core.Path.{_≡_};
 ghost use Prim.Native.Nat.{ℕ, _+_, _*_, _<_};
 ghost use lib.ListN.{length, getD};
 ghost use lib.Ieee.{binary64};
-ghost use Rattle.arithmetic.specs.Matrix.{patch};
-ghost use Rattle.lu.specs.Solve.{permuted, forwardStep, lowered, backStep, solved, signOf, determinantOf, swaps, forward as forwardOf, back as backOf};
+ghost use Rattle.arithmetic.specs.Matrix.{patch, column};
+ghost use Rattle.lu.specs.Solve.{permuted, forwardStep, lowered, backStep, solved, withColumn, solvedMatrix, signOf, determinantOf, swaps, forward as forwardOf, back as backOf};
+use crate::workspace::load_column;
+use crate::workspace::store_column;
 use arithmetic::matrix::entry;
 
 // The swaps of the factoring, in their order.
@@ -128,4 +130,34 @@ pub fn determinant(f: &[f64], n: usize, pivots: &[usize]) -> f64
         k += 1;
     }
     d
+}
+
+// Column j of the right-hand matrix x of m columns becomes its solution. c is room for one column.
+fn solve_one_column(
+    f: &[f64],
+    n: usize,
+    pivots: &[usize],
+    x: &mut [f64],
+    m: usize,
+    j: usize,
+    c: &mut [f64],
+)
+    requires { ⌜ (j < m) × (length (now f) ≡ n * n) × (length (now x) ≡ n * m) × (length (now c) ≡ n) × (length (now pivots) ≡ n) × ((k : ℕ) → k < n → getD (now pivots) k 0 < n) ⌝ }
+    ensures { λ _. ⌜ now (x .exit) ≡ withColumn n m j (solved binary64 n (now (f .entry)) (now (pivots .entry)) (column n m (now (x .entry)) j)) (now (x .entry)) ⌝ }
+{
+    load_column(x, n, m, j, c);
+    solve_column(f, n, pivots, c);
+    store_column(x, n, m, j, c);
+}
+
+// The right-hand matrix x of n rows and m columns becomes the solution. c is room for one column.
+pub fn solve_columns(f: &[f64], n: usize, pivots: &[usize], x: &mut [f64], m: usize, c: &mut [f64])
+    requires { ⌜ (length (now f) ≡ n * n) × (length (now x) ≡ n * m) × (length (now c) ≡ n) × (length (now pivots) ≡ n) × ((k : ℕ) → k < n → getD (now pivots) k 0 < n) ⌝ }
+    ensures { λ _. ⌜ now (x .exit) ≡ solvedMatrix binary64 n m (now (f .entry)) (now (pivots .entry)) (now (x .entry)) ⌝ }
+{
+    let mut j = 0;
+    while j < m {
+        solve_one_column(f, n, pivots, x, m, j, c);
+        j += 1;
+    }
 }

@@ -1,0 +1,75 @@
+-- `solve_columns` meets its contract. The invariant: the columns below j are replaced by their solutions. Assumes nothing.
+use Prim.Native.Nat.{_-_, _*_, _≤_}
+use mathlib.Core.Path.{_≡_, ap, _∙_}
+use lib.ListN.{length}
+use lib.Ieee.{binary64}
+use Rattle.lu.proofs.ColumnLaws.{solvedTo, solved-none, solved-all, solved-more}
+use native.Mathlib.Omega.{arith}
+use borrow.Author.Needs.{needs}
+use Rattle.lu.proofs.solve.solve_columns.Statement.{statement}
+use Rattle.lu.proofs.solve.solve_columns.Tie as tie
+use Rattle.lu.proofs.solve.solve_columns.Reads as reads
+use Rattle.lu.proofs.solve.solve_columns.Lts as lts
+use Rattle.lu.proofs.solve.solve_one_column.Reads as solve-one-column-reads
+
+abbrev Inv-loop : tie.InvT-loop
+Inv-loop f n pivots x₀ m c₀ j₀ x c j = (j ≤ m) × (length c ≡ n) × (length x ≡ n * m) × (x ≡ solvedTo binary64 n m f pivots x₀ j)
+
+abbrev μ-loop : tie.MeasureT-loop
+μ-loop f n pivots x₀ m c₀ j₀ x c j = m - j
+
+loop-holds : tie.Need-loop-holds Inv-loop μ-loop
+loop-holds c =
+    let s = c .before .before .before .before in
+    let a = s .args in
+    (omega arith, s .pre .2, s .pre .1, solved-none binary64 (a .n) (a .m) (a .f .now) (a .pivots .now) (a .x .now) (s .pre .1))
+
+solve-one-column-requires : tie.Need-solve-one-column-requires Inv-loop μ-loop
+solve-one-column-requires c κs = search needs
+
+add-j : tie.Need-add-j Inv-loop μ-loop
+add-j c = search needs
+
+loop-less : tie.Need-loop-less Inv-loop μ-loop
+loop-less c = search needs
+
+loop-again : tie.Need-loop-again Inv-loop μ-loop
+loop-again c =
+    let call = c .before .before .before .before in
+    let l = call .before .before .before .before .loop in
+    let s = call .before .before .before .before .before .before .before .before .before in
+    let a = s .args in
+    let d = call .solve-one-column in (
+      omega arith,
+      d .kept .1 .1 .1 .1 .1 .1 .0 ∙ l .inv .1,
+      d .kept .1 .1 .1 .0 ∙ l .inv .2,
+      d .ensures ∙ rw (l .inv .3) (solved-more binary64 (a .n) (a .m) (a .f .now) (a .pivots .now) (a .x .now) (l .j) (call .before .before .before .loop-test .taken)),
+    )
+
+same-length : tie.Need-same-length Inv-loop μ-loop
+same-length c = search needs
+
+same-length-2 : tie.Need-same-length-2 Inv-loop μ-loop
+same-length-2 c = search needs
+
+returns : tie.Need-returns Inv-loop μ-loop
+returns c =
+    let l = c .before .loop in
+    let a = c .before .before .before .before .before .before .args in
+    let e : l .j ≡ a .m = omega arith in
+    l .inv .3 ∙ ap (solvedTo binary64 (a .n) (a .m) (a .f .now) (a .pivots .now) (a .x .now)) e ∙ solved-all binary64 (a .n) (a .m) (a .f .now) (a .pivots .now) (a .x .now)
+
+pub solve-columns-spec : {M : Type 1} → statement M
+solve-columns-spec =
+    tie.close
+    (tie.spec
+    Inv-loop
+    μ-loop
+    loop-holds
+    solve-one-column-requires
+    add-j
+    loop-less
+    loop-again
+    same-length
+    same-length-2
+    returns)
