@@ -4,7 +4,7 @@ use mathlib.Core.List.{List, [], _∷_}
 use lib.Ieee.{Float, Format}
 use Rattle.arithmetic.specs.Float.{+zero}
 use Rattle.arithmetic.specs.Result.{Result, refused, done}
-use Rattle.arithmetic.specs.Questions.{answer, ofCompute, ofSolve, ofDeterminant}
+use Rattle.arithmetic.specs.Questions.{Call, answer, ofCompute, ofSolve, ofDeterminant}
 use Rattle.lu.specs.Lu.{luOutcome, luFactors, luPivots}
 use Rattle.lu.specs.Solve.{solvedMatrix, determinantOf}
 use Rattle.lu.specs.declared.LuOutcome.{LuOutcome}
@@ -20,9 +20,9 @@ abbrev pub factorised : LuOutcome → Factorisation → Result Factorisation
 factorised Factored l = done 0 l
 factorised (Singular k) l = refused 14 k 0
 
--- `compute`: rows, columns, the matrix, the lent pivots, the lengths of the lent factors and of the workspace
-unfoldable pub compute : Format → ℕ → ℕ → List Float → List ℕ → ℕ → ℕ → Result Factorisation
-compute f r c a ps out w = answer ofCompute (record {
+-- `compute` is given rows, columns, the matrix, the lent pivots, the lengths of the lent factors and of the workspace
+abbrev pub computeCall : ℕ → ℕ → List Float → List ℕ → ℕ → ℕ → Call
+computeCall r c a ps out w = record {
   rows = r;
   columns = c;
   matrix = a;
@@ -33,12 +33,15 @@ compute f r c a ps out w = answer ofCompute (record {
   pivots = ps;
   outputs = out ∷ [];
   room = w;
-})
+}
+
+unfoldable pub compute : Format → ℕ → ℕ → List Float → List ℕ → ℕ → ℕ → Result Factorisation
+compute f r c a ps out w = answer ofCompute (computeCall r c a ps out w)
     (factorised (luOutcome f r a) (record { factors = luFactors f r a; pivotRows = luPivots f r a }))
 
--- `solve`: rows, columns, factors, pivots, the right-hand matrix with its rows and columns, the length of the lent solution
-unfoldable pub solve : Format → ℕ → ℕ → List Float → List ℕ → ℕ → ℕ → List Float → ℕ → Result (List Float)
-solve f r c F ps r' c' b out = answer ofSolve (record {
+-- `solve` is given rows, columns, factors, pivots, the right-hand matrix with its rows and columns, the length of the lent solution
+abbrev pub solveCall : ℕ → ℕ → List Float → List ℕ → ℕ → ℕ → List Float → ℕ → Call
+solveCall r c F ps r' c' b out = record {
   rows = r;
   columns = c;
   matrix = F;
@@ -49,11 +52,14 @@ solve f r c F ps r' c' b out = answer ofSolve (record {
   pivots = ps;
   outputs = out ∷ [];
   room = 0;
-}) (done 0 (solvedMatrix f r c' F ps b))
+}
 
--- `determinant`: rows, columns, factors, pivots
-unfoldable pub determinant : Format → ℕ → ℕ → List Float → List ℕ → Result Float
-determinant f r c F ps = answer ofDeterminant (record {
+unfoldable pub solve : Format → ℕ → ℕ → List Float → List ℕ → ℕ → ℕ → List Float → ℕ → Result (List Float)
+solve f r c F ps r' c' b out = answer ofSolve (solveCall r c F ps r' c' b out) (done 0 (solvedMatrix f r c' F ps b))
+
+-- `determinant` is given rows, columns, factors, pivots
+abbrev pub determinantCall : ℕ → ℕ → List Float → List ℕ → Call
+determinantCall r c F ps = record {
   rows = r;
   columns = c;
   matrix = F;
@@ -64,4 +70,7 @@ determinant f r c F ps = answer ofDeterminant (record {
   pivots = ps;
   outputs = [];
   room = 0;
-}) (done 0 (determinantOf f r F ps))
+}
+
+unfoldable pub determinant : Format → ℕ → ℕ → List Float → List ℕ → Result Float
+determinant f r c F ps = answer ofDeterminant (determinantCall r c F ps) (done 0 (determinantOf f r F ps))
