@@ -1,11 +1,13 @@
 -- What each public call of LU gives, as a function of all that it is given. Definitions only.
 use Prim.Native.Nat.{ℕ}
+use mathlib.Core.Path.{_≡_}
 use mathlib.Core.List.{List, [], _∷_}
 use lib.Ieee.{Float, Format}
 use Rattle.arithmetic.specs.Float.{+zero}
 use Rattle.arithmetic.specs.Result.{Result, refused, done}
 use Rattle.arithmetic.specs.Questions.{Call, answer, ofCompute, ofSolve, ofDeterminant}
-use Rattle.lu.specs.Lu.{luOutcome, luFactors, luPivots}
+use Rattle.arithmetic.specs.Matrix.{patch, put}
+use Rattle.lu.specs.Lu.{luAt, luPivot, luOutcome, luFactors, luPivots, columns}
 use Rattle.lu.specs.Solve.{solvedMatrix, determinantOf}
 use Rattle.lu.specs.declared.LuOutcome.{LuOutcome}
 use Rattle.lu.specs.declared.LuOutcome.the-variants.{Factored, Singular}
@@ -74,3 +76,11 @@ determinantCall r c F ps = record {
 
 unfoldable pub determinant : Format → ℕ → ℕ → List Float → List ℕ → Result Float
 determinant f r c F ps = answer ofDeterminant (determinantCall r c F ps) (done 0 (determinantOf f r F ps))
+
+-- ---- a copy of a matrix factored in a workspace
+
+-- r is the outcome for the n by n matrix a; w' and ps' are the workspace and the pivots after it
+pub record FactoredCopy (f : Format) (n : ℕ) (a w : List Float) (ps : List ℕ) (w' : List Float) (ps' : List ℕ) (r : LuOutcome) : Type 0 where
+  pub outcome : r ≡ luOutcome f n a
+  pub factors : w' ≡ put w 0 (luAt f n a (columns n r))
+  pub pivots : ps' ≡ patch 0 (columns n r) (luPivot f n a) ps

@@ -6,22 +6,22 @@ use lib.ListN.{length, getD, length-set}
 use lib.Ieee.{nan}
 use Rattle.arithmetic.specs.Matrix.{tab, put}
 use Rattle.arithmetic.specs.Workspace.{store}
-use Rattle.arithmetic.proofs.MatrixLaws.{tab-getD, square-le}
+use Rattle.arithmetic.proofs.MatrixLaws.{tab-getD}
 use Rattle.arithmetic.proofs.PartLaws.{put-none, put-tab-more}
 use Rattle.arithmetic.proofs.workspace.copy_in.Statement.{statement}
 use Rattle.arithmetic.proofs.workspace.copy_in.Tie as tie
 
 abbrev Inv-loop : tie.InvT-loop
-Inv-loop w₀ a src n x k₀ w k = (x + length src ≤ length w₀) × (k ≤ length src) × (length w ≡ length w₀) × (w ≡ put w₀ x (tab k (λ i. getD src i nan)))
+Inv-loop w₀ a src x k₀ w k = (x + length src ≤ length w₀) × (k ≤ length src) × (length w ≡ length w₀) × (w ≡ put w₀ x (tab k (λ i. getD src i nan)))
 
 abbrev μ-loop : tie.MeasureT-loop
-μ-loop w₀ a src n x k₀ w k = length src - k
+μ-loop w₀ a src x k₀ w k = length src - k
 
 mul-x : tie.Need-mul-x Inv-loop μ-loop
 mul-x c = omega arith
 
 loop-holds : tie.Need-loop-holds Inv-loop μ-loop
-loop-holds c = (omega (arith, square-le (c .args .n) (c .pre .0 .order)), omega arith, refl, put-none _ _ _)
+loop-holds c = (omega arith, omega arith, refl, put-none _ _ _)
 
 mul-w : tie.Need-mul-w Inv-loop μ-loop
 mul-w c = omega arith

@@ -1,27 +1,25 @@
 -- `copy_out` meets its contract. The invariant: the first k numbers are copied. Assumes nothing.
 use Prim.Native.Nat.{_+_, _-_, _*_, _≤_}
 use native.Mathlib.Omega.{arith}
-use mathlib.Core.Path.{_≡_, refl, sym, _∙_}
+use mathlib.Core.Path.{_≡_, refl, _∙_}
 use lib.ListN.{length, getD, length-set}
 use lib.Ieee.{nan}
 use Rattle.arithmetic.specs.Matrix.{tab, put, part}
-use Rattle.arithmetic.specs.Workspace.{slot}
-use Rattle.arithmetic.proofs.MatrixLaws.{square-le}
 use Rattle.arithmetic.proofs.PartLaws.{put-none, put-store0, put-all, length-part}
 use Rattle.arithmetic.proofs.workspace.copy_out.Statement.{statement}
 use Rattle.arithmetic.proofs.workspace.copy_out.Tie as tie
 
 abbrev Inv-loop : tie.InvT-loop
-Inv-loop w a out₀ n x k₀ out k = (x + length out₀ ≤ length w) × (k ≤ length out₀) × (length out ≡ length out₀) × (out ≡ put out₀ 0 (tab k (λ i. getD w (x + i) nan)))
+Inv-loop w a out₀ x k₀ out k = (x + length out₀ ≤ length w) × (k ≤ length out₀) × (length out ≡ length out₀) × (out ≡ put out₀ 0 (tab k (λ i. getD w (x + i) nan)))
 
 abbrev μ-loop : tie.MeasureT-loop
-μ-loop w a out₀ n x k₀ out k = length out₀ - k
+μ-loop w a out₀ x k₀ out k = length out₀ - k
 
 mul-x : tie.Need-mul-x Inv-loop μ-loop
 mul-x c = omega arith
 
 loop-holds : tie.Need-loop-holds Inv-loop μ-loop
-loop-holds c = (omega (arith, square-le (c .args .n) (c .pre .0 .order)), omega arith, refl, put-none _ _ _)
+loop-holds c = (omega arith, omega arith, refl, put-none _ _ _)
 
 add-out : tie.Need-add-out Inv-loop μ-loop
 add-out c = omega arith
@@ -53,11 +51,11 @@ same-length : tie.Need-same-length Inv-loop μ-loop
 same-length c = omega arith
 
 returns : tie.Need-returns Inv-loop μ-loop
-unfolding slot part
+unfolding part
 returns c =
     let a = c .before .before .args in
-    let e : c .before .loop .k ≡ a .n * a .n = omega arith in
-    rw e at (c .before .loop .inv .3) ∙ put-all _ _ (length-part (a .w .now) (256 * a .a) (a .n * a .n) ∙ sym (c .before .before .pre .1 .1))
+    let e : c .before .loop .k ≡ length (a .out .now) = omega arith in
+    rw e at (c .before .loop .inv .3) ∙ put-all _ _ (length-part (a .w .now) (256 * a .a) (length (a .out .now)))
 
 pub copy-out-spec : {M : Type 1} → statement M
 copy-out-spec =
