@@ -79,7 +79,7 @@ module _ (m n : ℕ) (a : List Float) (p q : ℕ) (b : List Float) (out : ℕ) w
     kron-fitting h = fitting (all-yes (told r (h ∙ asked-kron)) e)
 
     -- both matrices are square
-    pub kron-sum-fitting : found r ≡ asked ofKronSum call → (m ≡ n) × (p ≡ q) × Fitting m n a p q b out
+    pub kron-sum-fitting : found r ≡ asked ofKronSum call → Fitting m m a p p b out
     kron-sum-fitting h =
         let s = all-yes (told r (h ∙ asked-kron-sum)) e in
-        (eqb-true m n (ask-yes _ 2 m n (s .0)), eqb-true p q (ask-yes _ 3 p q (s .1 .0)), fitting (s .1 .1))
+        rw (← eqb-true m n (ask-yes _ 2 m n (s .0)), ← eqb-true p q (ask-yes _ 3 p q (s .1 .0))) at (fitting (s .1 .1))

@@ -4,3 +4,4 @@ pub mod FirstOutput
 pub mod ExponentialLaws
 pub mod KroneckerLaws
 pub mod KroneckerQuestions
+pub mod OutputLaws
