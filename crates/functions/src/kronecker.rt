@@ -146,15 +146,7 @@ pub fn kron_sum_into(m: usize, a: &[f64], p: usize, b: &[f64], out: &mut [f64])
 }
 
 // The Kronecker product of a, m by n, and b, p by q: out, m * p by n * q, is written where the call is not refused.
-pub fn kron(
-    m: usize,
-    n: usize,
-    a: &[f64],
-    p: usize,
-    q: usize,
-    b: &[f64],
-    out: &mut [f64],
-) -> Answer
+pub fn kron(m: usize, n: usize, a: &[f64], p: usize, q: usize, b: &[f64], out: &mut [f64]) -> Answer
     ensures { λ r. ⌜ OneOutput (kronOf binary64 m n (now (a .entry)) p q (now (b .entry)) (length (now (out .entry)))) (r .outcome) (now (out .entry)) (now (out .exit)) ⌝ }
 {
     match ask_kron(m, n, a, p, q, b, out.len()) {

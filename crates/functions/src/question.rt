@@ -48,15 +48,7 @@ fn ask_products(m: usize, n: usize, p: usize, q: usize) -> Question
 }
 
 // 5, of two matrices and an output.
-fn ask_slices(
-    m: usize,
-    n: usize,
-    a: &[f64],
-    p: usize,
-    q: usize,
-    b: &[f64],
-    out: usize,
-) -> Question
+fn ask_slices(m: usize, n: usize, a: &[f64], p: usize, q: usize, b: &[f64], out: usize) -> Question
     requires { ⌜ (m ≤ 64) × (n ≤ 64) × (p ≤ 64) × (q ≤ 64) × (m * p ≤ 64) × (n * q ≤ 64) ⌝ }
     ensures { λ r. ⌜ found r ≡ firstNo (exactly (m * n) (length (now (a .entry))) ∷ exactly (p * q) (length (now (b .entry))) ∷ exactly ((m * p) * (n * q)) out ∷ []) ⌝ }
 {
