@@ -3,3 +3,5 @@ pub mod PadeLaws
 pub mod FirstOutput
 pub mod ExponentialLaws
 pub mod KroneckerLaws
+pub mod KroneckerQuestions
+pub mod OutputLaws

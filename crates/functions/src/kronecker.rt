@@ -1,4 +1,5 @@
 // The Kronecker product and the Kronecker sum of two matrices, written block by block: block (i, j) is formed from entry (i, j) of the first matrix.
+// Last the two calls, which ask their questions first.
 ghost use mathlib.Core.Path.{_≡_};
 ghost use Prim.Native.Nat.{_+_, _*_, _<_, _≤_};
 ghost use lib.ListN.{length};
@@ -6,7 +7,15 @@ ghost use lib.Ieee.{binary64, add, mul};
 ghost use Rattle.arithmetic.specs.Float.{one};
 ghost use Rattle.arithmetic.specs.Matrix.{tab, grid, at, put};
 ghost use Rattle.arithmetic.specs.Product.{diagonalEntry};
+ghost use Rattle.functions.specs.Calls.{kronSum, kron as kronOf};
+ghost use Rattle.functions.specs.Outputs.{OneOutput};
 ghost use Rattle.functions.specs.Kronecker.{kronM, kronSumM, kronEntry, kronSumEntry, blockRow};
+use crate::question::ask_kron;
+use crate::question::ask_kron_sum;
+use arithmetic::answer::Answer;
+use arithmetic::answer::Question;
+use arithmetic::answer::done;
+use arithmetic::answer::refused;
 use arithmetic::workspace::diagonal_entry;
 
 // Writes to y row k of the block s * b, where b has q columns.
@@ -133,5 +142,39 @@ pub fn kron_sum_into(m: usize, a: &[f64], p: usize, b: &[f64], out: &mut [f64])
         sum_rows(out, y, m, a, i, p, b);
         y += size;
         i += 1;
+    }
+}
+
+// The Kronecker product of a, m by n, and b, p by q: out, m * p by n * q, is written where the call is not refused.
+pub fn kron(m: usize, n: usize, a: &[f64], p: usize, q: usize, b: &[f64], out: &mut [f64]) -> Answer
+    ensures { λ r. ⌜ OneOutput (kronOf binary64 m n (now (a .entry)) p q (now (b .entry)) (length (now (out .entry)))) (r .outcome) (now (out .entry)) (now (out .exit)) ⌝ }
+{
+    match ask_kron(m, n, a, p, q, b, out.len()) {
+        Question::No(why) => refused(why),
+        Question::Passed => {
+            kron_into(m, n, a, p, q, b, out);
+            done(0)
+        }
+    }
+}
+
+// The Kronecker sum of a, m by n, and b, p by q, which both have to be square: out, m * p by n * q, is written where the call is not refused.
+pub fn kron_sum(
+    m: usize,
+    n: usize,
+    a: &[f64],
+    p: usize,
+    q: usize,
+    b: &[f64],
+    out: &mut [f64],
+) -> Answer
+    ensures { λ r. ⌜ OneOutput (kronSum binary64 m n (now (a .entry)) p q (now (b .entry)) (length (now (out .entry)))) (r .outcome) (now (out .entry)) (now (out .exit)) ⌝ }
+{
+    match ask_kron_sum(m, n, a, p, q, b, out.len()) {
+        Question::No(why) => refused(why),
+        Question::Passed => {
+            kron_sum_into(m, a, p, b, out);
+            done(0)
+        }
     }
 }
