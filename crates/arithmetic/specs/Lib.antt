@@ -8,3 +8,4 @@ pub mod Finite
 pub mod Result
 pub mod Questions
 pub mod Answers
+pub mod Outputs

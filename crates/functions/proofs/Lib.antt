@@ -4,4 +4,3 @@ pub mod FirstOutput
 pub mod ExponentialLaws
 pub mod KroneckerLaws
 pub mod KroneckerQuestions
-pub mod OutputLaws

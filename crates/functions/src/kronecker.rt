@@ -8,7 +8,7 @@ ghost use Rattle.arithmetic.specs.Float.{one};
 ghost use Rattle.arithmetic.specs.Matrix.{tab, grid, at, put};
 ghost use Rattle.arithmetic.specs.Product.{diagonalEntry};
 ghost use Rattle.functions.specs.Calls.{kronSum, kron as kronOf};
-ghost use Rattle.functions.specs.Outputs.{OneOutput};
+ghost use Rattle.arithmetic.specs.Outputs.{OneOutput};
 ghost use Rattle.functions.specs.Kronecker.{kronM, kronSumM, kronEntry, kronSumEntry, blockRow};
 use crate::question::ask_kron;
 use crate::question::ask_kron_sum;

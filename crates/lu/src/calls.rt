@@ -1,12 +1,50 @@
 // The public calls of LU. Each asks its questions first, and a refusal leaves every output as it was lent.
 ghost use mathlib.Core.Path.{_≡_};
-ghost use Prim.Native.Nat.{_*_, _≤_};
-ghost use lib.ListN.{length};
+ghost use Prim.Native.Nat.{ℕ, _*_, _<_, _≤_};
+ghost use lib.ListN.{length, getD};
 ghost use lib.Ieee.{binary64};
-ghost use Rattle.lu.specs.Calls.{FactoredCopy};
+ghost use Rattle.arithmetic.specs.Float.{+zero};
+ghost use Rattle.arithmetic.specs.Answers.{reported};
+ghost use Rattle.arithmetic.specs.Result.{exit, outcome as outcomeOf};
+ghost use Rattle.arithmetic.specs.Outputs.{OneOutput};
+ghost use Rattle.lu.specs.Solve.{solvedMatrix};
+ghost use Rattle.lu.specs.Calls.{FactoredCopy, Computing, Computed, luReport, compute as computeOf, solve as solveOf, determinant as determinantOf};
 use crate::LuOutcome;
+use crate::question::ask_compute;
+use crate::question::ask_determinant;
+use crate::question::ask_solve;
+use crate::substitution::solve_columns;
 use crate::workspace::factor_in;
+use arithmetic::answer::Answer;
+use arithmetic::answer::Outcome;
+use arithmetic::answer::Question;
+use arithmetic::answer::Refusal;
+use arithmetic::answer::done;
+use arithmetic::answer::refused;
+use arithmetic::matrix::copy_row;
+use arithmetic::workspace::clear;
 use arithmetic::workspace::copy_in;
+use arithmetic::workspace::copy_out;
+
+// The answer of `determinant`; +0 beside a refusal.
+pub struct DeterminantAnswer {
+    pub outcome: Outcome,
+    pub value: f64,
+}
+
+// Room for the pivots of an order up to 64.
+fn pivot_room() -> [usize; 64]
+    ensures { λ r. ⌜ 64 ≡ length r ⌝ }
+{
+    [0usize; 64]
+}
+
+// Room for a column of an order up to 64.
+fn column_room() -> [f64; 64]
+    ensures { λ r. ⌜ 64 ≡ length r ⌝ }
+{
+    [0.0f64; 64]
+}
 
 // Copies src to dst, which is as long.
 fn copy_pivots(dst: &mut [usize], src: &[usize])
@@ -27,4 +65,122 @@ fn factor_copy(n: usize, a: &[f64], w: &mut [f64], pivots: &mut [usize]) -> LuOu
 {
     copy_in(w, 0, a);
     factor_in(w, 0, n, pivots)
+}
+
+// Where every column passes, the factors and the pivots of the n by n matrix a are written. rows is room for n pivots.
+fn compute_in(
+    n: usize,
+    a: &[f64],
+    factors: &mut [f64],
+    pivots: &mut [usize],
+    w: &mut [f64],
+    rows: &mut [usize],
+) -> LuOutcome
+    requires { ⌜ (n ≤ 64) × (length (now a) ≡ n * n) × (8192 ≤ length (now w)) × (length (now rows) ≡ n) × (length (now factors) ≡ n * n) × (length (now pivots) ≡ n) ⌝ }
+    ensures { λ r. ⌜ Computing binary64 n (now (a .entry)) (now (factors .entry)) (now (factors .exit)) (now (pivots .entry)) (now (pivots .exit)) (now (w .entry)) (now (w .exit)) r ⌝ }
+{
+    let outcome = factor_copy(n, a, w, rows);
+    match outcome {
+        LuOutcome::Factored => {
+            copy_out(w, 0, factors);
+            copy_pivots(pivots, rows);
+            LuOutcome::Factored
+        }
+        LuOutcome::Singular(k) => LuOutcome::Singular(k),
+    }
+}
+
+// `compute_in` with room of its own.
+fn compute_with_room(
+    n: usize,
+    a: &[f64],
+    factors: &mut [f64],
+    pivots: &mut [usize],
+    w: &mut [f64],
+) -> LuOutcome
+    requires { ⌜ (n ≤ 64) × (length (now a) ≡ n * n) × (8192 ≤ length (now w)) × (length (now factors) ≡ n * n) × (length (now pivots) ≡ n) ⌝ }
+    ensures { λ r. ⌜ Computing binary64 n (now (a .entry)) (now (factors .entry)) (now (factors .exit)) (now (pivots .entry)) (now (pivots .exit)) (now (w .entry)) (now (w .exit)) r ⌝ }
+{
+    let mut rows = pivot_room();
+    compute_in(n, a, factors, pivots, w, &mut rows[..n])
+}
+
+// Question 14: done, or refused by the column that did not pass.
+fn answer_of(outcome: LuOutcome) -> Answer
+    ensures { λ r. ⌜ reported (r .outcome) ≡ luReport outcome ⌝ }
+{
+    match outcome {
+        LuOutcome::Factored => done(0),
+        LuOutcome::Singular(k) => refused(Refusal::SingularColumn(k)),
+    }
+}
+
+// The LU factors of the matrix a and the pivots' rows.
+pub fn compute(
+    rows: usize,
+    columns: usize,
+    a: &[f64],
+    factors: &mut [f64],
+    pivots: &mut [usize],
+    w: &mut [f64],
+) -> Answer
+    ensures { λ r. ⌜ Computed (computeOf binary64 rows columns (now (a .entry)) (now (pivots .entry)) (length (now (factors .entry))) (length (now (w .entry)))) (r .outcome) (now (factors .entry)) (now (factors .exit)) (now (pivots .entry)) (now (pivots .exit)) (now (w .entry)) (now (w .exit)) ⌝ }
+{
+    match ask_compute(rows, columns, a, pivots, factors.len(), w.len()) {
+        Question::No(why) => refused(why),
+        Question::Passed => {
+            let outcome = compute_with_room(rows, a, factors, pivots, w);
+            clear(w);
+            answer_of(outcome)
+        }
+    }
+}
+
+// The solutions for the m columns of b are written to out.
+fn solve_into(f: &[f64], n: usize, pivots: &[usize], b: &[f64], m: usize, out: &mut [f64])
+    requires { ⌜ (n ≤ 64) × (length (now f) ≡ n * n) × (length (now b) ≡ n * m) × (length (now out) ≡ n * m) × (length (now pivots) ≡ n) × ((k : ℕ) → k < n → getD (now pivots) k 0 < n) ⌝ }
+    ensures { λ _. ⌜ now (out .exit) ≡ solvedMatrix binary64 n m (now (f .entry)) (now (pivots .entry)) (now (b .entry)) ⌝ }
+{
+    copy_row(out, b);
+    let mut column = column_room();
+    solve_columns(f, n, pivots, out, m, &mut column[..n]);
+}
+
+// The solution of the systems whose matrix has the factors f and the pivots, for the columns of b, of height by width.
+pub fn solve(
+    rows: usize,
+    columns: usize,
+    f: &[f64],
+    pivots: &[usize],
+    height: usize,
+    width: usize,
+    b: &[f64],
+    out: &mut [f64],
+) -> Answer
+    ensures { λ r. ⌜ OneOutput (solveOf binary64 rows columns (now (f .entry)) (now (pivots .entry)) height width (now (b .entry)) (length (now (out .entry)))) (r .outcome) (now (out .entry)) (now (out .exit)) ⌝ }
+{
+    match ask_solve(rows, columns, f, pivots, height, width, b, out.len()) {
+        Question::No(why) => refused(why),
+        Question::Passed => {
+            solve_into(f, rows, pivots, b, width, out);
+            done(0)
+        }
+    }
+}
+
+// The determinant of the matrix that has the factors f and the pivots.
+pub fn determinant(rows: usize, columns: usize, f: &[f64], pivots: &[usize]) -> DeterminantAnswer
+    ensures { λ r. ⌜ reported (r .outcome) ≡ outcomeOf (determinantOf binary64 rows columns (now (f .entry)) (now (pivots .entry))) ⌝ }
+    ensures { λ r. ⌜ r .value ≡ exit (λ d. d) (determinantOf binary64 rows columns (now (f .entry)) (now (pivots .entry))) +zero ⌝ }
+{
+    match ask_determinant(rows, columns, f, pivots) {
+        Question::No(why) => DeterminantAnswer {
+            outcome: Outcome::Refused(why),
+            value: 0.0,
+        },
+        Question::Passed => DeterminantAnswer {
+            outcome: Outcome::Done { halvings: 0 },
+            value: crate::substitution::determinant(f, rows, pivots),
+        },
+    }
 }

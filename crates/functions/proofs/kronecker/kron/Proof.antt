@@ -9,7 +9,7 @@ use Rattle.arithmetic.specs.Questions.{ofKron}
 use Rattle.functions.specs.Kronecker.{kronM}
 use Rattle.functions.specs.Calls.{kron}
 use Rattle.functions.proofs.KroneckerQuestions.{call, kron-fitting}
-use Rattle.functions.proofs.OutputLaws.{output-refused, output-done}
+use Rattle.arithmetic.proofs.OutputLaws.{output-refused, output-done}
 use Rattle.functions.proofs.kronecker.kron.Statement.{statement}
 use Rattle.functions.proofs.kronecker.kron.Tie as tie
 

@@ -9,7 +9,7 @@ use Rattle.arithmetic.specs.Questions.{ofKronSum}
 use Rattle.functions.specs.Kronecker.{kronSumM}
 use Rattle.functions.specs.Calls.{kronSum}
 use Rattle.functions.proofs.KroneckerQuestions.{call, kron-sum-fitting}
-use Rattle.functions.proofs.OutputLaws.{output-refused, output-done}
+use Rattle.arithmetic.proofs.OutputLaws.{output-refused, output-done}
 use Rattle.functions.proofs.kronecker.kron_sum.Statement.{statement}
 use Rattle.functions.proofs.kronecker.kron_sum.Tie as tie
 

@@ -10,8 +10,8 @@ use mathlib.Core.Bool.{true, false}
 use borrow.Author.Tests.{eq-eqb, ne-eqb}
 use native.Mathlib.Omega.{arith}
 use borrow.Author.Needs.{needs}
-use Rattle.lu.proofs.solve.swap_count.Statement.{statement}
-use Rattle.lu.proofs.solve.swap_count.Tie as tie
+use Rattle.lu.proofs.substitution.swap_count.Statement.{statement}
+use Rattle.lu.proofs.substitution.swap_count.Tie as tie
 
 abbrev Inv-loop : tie.InvT-loop
 Inv-loop pivots n c₀ k₀ c k = (k ≤ n) × (c ≡ swaps pivots k) × (c ≤ k)

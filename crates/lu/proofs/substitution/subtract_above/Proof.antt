@@ -1,32 +1,29 @@
--- `forward_step` meets its contract. The invariant: the rows from k + 1 up to i are done. The measure is what is left of the rows.
+-- `subtract_above` meets its contract. The invariant: the rows below i are done. The measure is what is left of the rows.
 -- Assumes nothing.
-use Prim.Native.Nat.{_≤_, _<_, _-_, _+_}
+use Prim.Native.Nat.{_≤_, _-_}
 use mathlib.Core.Path.{_≡_, refl, ap, _∙_}
 use lib.ListN.{length, getD, length-set}
 use lib.Ieee.{binary64, nan}
 use Rattle.arithmetic.specs.Matrix.{patch}
 use Rattle.arithmetic.proofs.PatchLaws.{patch-none}
 use Rattle.lu.specs.Solve.{lowered}
-use Rattle.lu.proofs.SolveLaws.{forward-row, forward-step}
+use Rattle.lu.proofs.SolveLaws.{back-row}
 use native.Mathlib.Omega.{arith}
 use borrow.Author.Needs.{needs}
-use Rattle.lu.proofs.solve.forward_step.Statement.{statement}
-use Rattle.lu.proofs.solve.forward_step.Tie as tie
+use Rattle.lu.proofs.substitution.subtract_above.Statement.{statement}
+use Rattle.lu.proofs.substitution.subtract_above.Tie as tie
 
 abbrev Inv-loop : tie.InvT-loop
-Inv-loop f n k x₀ i₀ x i = (k < i) × (i ≤ n) × (length x ≡ n) × (x ≡ patch (k + 1) i (lowered binary64 n f k x₀) x₀)
+Inv-loop f n k x₀ i₀ x i = (i ≤ k) × (length x ≡ n) × (x ≡ patch 0 i (lowered binary64 n f k x₀) x₀)
 
 abbrev μ-loop : tie.MeasureT-loop
-μ-loop f n k x₀ i₀ x i = n - i
-
-add-i : tie.Need-add-i Inv-loop μ-loop
-add-i c = search needs
+μ-loop f n k x₀ i₀ x i = k - i
 
 loop-holds : tie.Need-loop-holds Inv-loop μ-loop
 loop-holds c =
     let s = c .before .before in
     let a = s .args in
-    (omega arith, omega arith, s .pre .2, patch-none nan (a .k + 1) (lowered binary64 (a .n) (a .f .now) (a .k) (a .x .now)) (a .x .now))
+    (omega arith, s .pre .2, patch-none nan 0 (lowered binary64 (a .n) (a .f .now) (a .k) (a .x .now)) (a .x .now))
 
 mul-v : tie.Need-mul-v Inv-loop μ-loop
 mul-v c = search needs
@@ -49,8 +46,8 @@ mul-x c = search needs
 slice-write-x : tie.Need-slice-write-x Inv-loop μ-loop
 slice-write-x c = search needs
 
-add-i-2 : tie.Need-add-i-2 Inv-loop μ-loop
-add-i-2 c = search needs
+add-i : tie.Need-add-i Inv-loop μ-loop
+add-i c = search needs
 
 loop-less : tie.Need-loop-less Inv-loop μ-loop
 loop-less c = search needs
@@ -63,10 +60,9 @@ loop-again c =
     let s = turn .before .before .before .before in
     let a = s .args in (
       omega arith,
-      omega arith,
-      length-set (l .x) (l .i) _ ∙ l .inv .2,
-      forward-row binary64 (a .n) (a .f .now) (a .k) (a .x .now) (l .i) (l .x) _ (getD (l .x) (l .i) nan) (entry1 .entry .result) (getD (l .x) (a .k) nan)
-          (l .inv .0) (omega arith) (l .inv .3) refl refl (entry1 .entry .ensures) refl,
+      length-set (l .x) (l .i) _ ∙ l .inv .1,
+      back-row binary64 (a .n) (a .f .now) (a .k) (a .x .now) (l .i) (l .x) _ (getD (l .x) (l .i) nan) (entry1 .entry .result) (getD (l .x) (a .k) nan)
+          (turn .loop-test .taken) (omega arith) (l .inv .2) refl refl (entry1 .entry .ensures) refl,
     )
 
 same-length : tie.Need-same-length Inv-loop μ-loop
@@ -77,18 +73,15 @@ returns c =
     let l = c .before .loop in
     let s = c .before .before .before .before in
     let a = s .args in
-    let e : l .i ≡ a .n = omega arith in
-    l .inv .3
-    ∙ ap (λ i. patch (a .k + 1) i (lowered binary64 (a .n) (a .f .now) (a .k) (a .x .now)) (a .x .now)) e
-    ∙ forward-step binary64 (a .n) (a .f .now) (a .k) (a .x .now) (s .pre .2) (s .pre .0)
+    let e : l .i ≡ a .k = omega arith in
+    l .inv .2 ∙ ap (λ i. patch 0 i (lowered binary64 (a .n) (a .f .now) (a .k) (a .x .now)) (a .x .now)) e
 
-pub forward-step-spec : {M : Type 1} → statement M
-forward-step-spec =
+pub subtract-above-spec : {M : Type 1} → statement M
+subtract-above-spec =
     tie.close
     (tie.spec
     Inv-loop
     μ-loop
-    add-i
     loop-holds
     mul-v
     slice-read-v
@@ -97,7 +90,7 @@ forward-step-spec =
     slice-read-v-2
     mul-x
     slice-write-x
-    add-i-2
+    add-i
     loop-less
     loop-again
     same-length

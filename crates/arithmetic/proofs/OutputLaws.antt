@@ -3,15 +3,15 @@ use Prim.Native.Nat.{ℕ}
 use mathlib.Core.Path.{_≡_, ap, sym, _∙_}
 use mathlib.Core.List.{List}
 use lib.Ieee.{Float}
 use Rattle.arithmetic.specs.Result.{Result, done, outcome, exit}
 use Rattle.arithmetic.specs.Questions.{Call, Profile, asked, answer}
 use Rattle.arithmetic.specs.Answers.{numbered, reported, found}
 use Rattle.arithmetic.specs.declared.answer.Outcome.{Outcome}
 use Rattle.arithmetic.specs.declared.answer.Question.{Question}
 use Rattle.arithmetic.specs.declared.answer.Question.the-variants.{Passed, No}
 use Rattle.arithmetic.specs.declared.answer.Refusal.{Refusal}
 use Rattle.arithmetic.proofs.AnswerLaws.{answer-passed, outcome-no, exit-no}
-use Rattle.functions.specs.Outputs.{OneOutput}
+use Rattle.arithmetic.specs.Outputs.{OneOutput}
 
 module _ (p : Profile) (c : Call) (q : Question) (h : found q ≡ asked p c) (o : Outcome) (before : List Float) where
   -- a question refuses: the output is as it was lent

@@ -7,8 +7,8 @@ use lib.Ieee.{binary64}
 use Rattle.lu.proofs.SolveLaws.{length-forwardStep, forward-turn}
 use native.Mathlib.Omega.{arith}
 use borrow.Author.Needs.{needs}
-use Rattle.lu.proofs.solve.forward.Statement.{statement}
-use Rattle.lu.proofs.solve.forward.Tie as tie
+use Rattle.lu.proofs.substitution.forward.Statement.{statement}
+use Rattle.lu.proofs.substitution.forward.Tie as tie
 
 abbrev Inv-loop : tie.InvT-loop
 Inv-loop f n x₀ k₀ x k = (k ≤ n) × (length x ≡ n) × (x ≡ Rattle.lu.specs.Solve.forward binary64 n f x₀ k)

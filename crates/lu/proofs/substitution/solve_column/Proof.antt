@@ -3,8 +3,8 @@
 use lib.Ieee.{binary64}
 use Rattle.lu.proofs.SolveLaws.{solve-is}
 use borrow.Author.Needs.{needs}
-use Rattle.lu.proofs.solve.solve_column.Statement.{statement}
-use Rattle.lu.proofs.solve.solve_column.Tie as tie
+use Rattle.lu.proofs.substitution.solve_column.Statement.{statement}
+use Rattle.lu.proofs.substitution.solve_column.Tie as tie
 
 permute-requires : tie.Need-permute-requires
 permute-requires c κs = search needs

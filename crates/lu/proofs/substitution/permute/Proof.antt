@@ -7,8 +7,8 @@ use Rattle.lu.specs.Solve.{permuted}
 use Rattle.lu.proofs.SolveLaws.{permute-turn}
 use native.Mathlib.Omega.{arith}
 use borrow.Author.Needs.{needs}
-use Rattle.lu.proofs.solve.permute.Statement.{statement}
-use Rattle.lu.proofs.solve.permute.Tie as tie
+use Rattle.lu.proofs.substitution.permute.Statement.{statement}
+use Rattle.lu.proofs.substitution.permute.Tie as tie
 
 abbrev Inv-loop : tie.InvT-loop
 Inv-loop pivots x₀ n k₀ x k = (k ≤ n) × (length x ≡ n) × (x ≡ permuted n pivots x₀ k)

@@ -7,8 +7,8 @@ use Rattle.lu.specs.Solve.{product, determinantOf, signOf}
 use Rattle.lu.proofs.SolveLaws.{product-turn}
 use native.Mathlib.Omega.{arith}
 use borrow.Author.Needs.{needs}
-use Rattle.lu.proofs.solve.determinant.Statement.{statement}
-use Rattle.lu.proofs.solve.determinant.Tie as tie
+use Rattle.lu.proofs.substitution.determinant.Statement.{statement}
+use Rattle.lu.proofs.substitution.determinant.Tie as tie
 
 abbrev Inv-loop : tie.InvT-loop
 Inv-loop f n pivots d₀ k₀ d k = (k ≤ n) × (d ≡ product binary64 n f d₀ k)

@@ -7,8 +7,8 @@ use lib.Ieee.{binary64, nan, div}
 use Rattle.arithmetic.specs.Matrix.{at}
 use Rattle.lu.proofs.SolveLaws.{back-step}
 use borrow.Author.Needs.{needs}
-use Rattle.lu.proofs.solve.back_step.Statement.{statement}
-use Rattle.lu.proofs.solve.back_step.Tie as tie
+use Rattle.lu.proofs.substitution.back_step.Statement.{statement}
+use Rattle.lu.proofs.substitution.back_step.Tie as tie
 
 mul-q : tie.Need-mul-q
 mul-q c = search needs
