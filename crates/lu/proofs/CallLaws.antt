@@ -8,15 +8,15 @@ use lib.ListN.{length}
 use lib.Ieee.{Float, Format}
 use Rattle.arithmetic.specs.Matrix.{patch, part, put}
 use Rattle.arithmetic.specs.Workspace.{store, cleared, Only}
-use Rattle.arithmetic.specs.Result.{Result, refused, done, outcome, exit, workspace}
+use Rattle.arithmetic.specs.Result.{Result, outcome, exit, workspace}
 use Rattle.arithmetic.specs.Answers.{numbered, reported, found}
-use Rattle.arithmetic.specs.Questions.{answer, asked, ofCompute}
+use Rattle.arithmetic.specs.Questions.{asked, ofCompute}
 use Rattle.arithmetic.specs.declared.answer.Outcome.{Outcome}
 use Rattle.arithmetic.specs.declared.answer.Question.{Question}
 use Rattle.arithmetic.specs.declared.answer.Question.the-variants.{Passed, No}
 use Rattle.arithmetic.specs.declared.answer.Refusal.{Refusal}
 use Rattle.arithmetic.proofs.PatchLaws.{patch-all}
-use Rattle.arithmetic.proofs.PartLaws.{length-put, part-put, put-put}
+use Rattle.arithmetic.proofs.PartLaws.{part-put, put-put}
 use Rattle.arithmetic.proofs.Slots.{only-run, cleared-only}
 use Rattle.arithmetic.proofs.AnswerLaws.{answer-passed, outcome-no, exit-no, workspace-no}
 use Rattle.lu.specs.Lu.{luAt, luPivot, luOutcome, luFactors, luPivots, columns, LuDoneIn}

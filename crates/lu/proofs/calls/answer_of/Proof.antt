@@ -1,12 +1,7 @@
 -- `answer_of` meets its contract: each arm of the match is told the outcome. Assumes nothing.
-use native.Mathlib.Omega.{arith}
 use borrow.Author.Needs.{needs}
 use Rattle.lu.proofs.calls.answer_of.Statement.{statement}
 use Rattle.lu.proofs.calls.answer_of.Tie as tie
-use Rattle.lu.proofs.calls.answer_of.Reads as reads
-use Rattle.lu.proofs.calls.answer_of.Lts as lts
-use Rattle.arithmetic.proofs.answer.done.Reads as done-reads
-use Rattle.arithmetic.proofs.answer.refused.Reads as refused-reads
 
 enum-told : tie.Need-enum-told
 enum-told c = search needs

@@ -1,7 +1,6 @@
 -- `copy_pivots` meets its contract. The invariant: the first k are copied. Assumes nothing.
 use Prim.Native.Nat.{_-_, _≤_}
 use mathlib.Core.Path.{_≡_, refl, _∙_}
-use native.Mathlib.Nat.{le-antisymm}
 use lib.ListN.{length, getD, length-set}
 use Rattle.arithmetic.specs.Matrix.{patch}
 use Rattle.arithmetic.proofs.MatrixLaws.{tab-getD}
@@ -10,8 +9,6 @@ use native.Mathlib.Omega.{arith}
 use borrow.Author.Needs.{needs}
 use Rattle.lu.proofs.calls.copy_pivots.Statement.{statement}
 use Rattle.lu.proofs.calls.copy_pivots.Tie as tie
-use Rattle.lu.proofs.calls.copy_pivots.Reads as reads
-use Rattle.lu.proofs.calls.copy_pivots.Lts as lts
 
 abbrev Inv-loop : tie.InvT-loop
 Inv-loop dst₀ src k₀ dst k = (k ≤ length src) × (length src ≡ length dst₀) × (length dst ≡ length dst₀) × (dst ≡ patch 0 k (λ i. getD src i 0) dst₀)

@@ -10,14 +10,9 @@ use Rattle.arithmetic.proofs.AnswerLaws.{answer-passed, outcome-no, exit-no}
 use Rattle.lu.specs.Solve.{determinantOf}
 use Rattle.lu.specs.Calls.{determinant, determinantCall}
 use Rattle.lu.proofs.LuQuestionLaws.{determinant-passed}
-use native.Mathlib.Omega.{arith}
 use borrow.Author.Needs.{needs}
 use Rattle.lu.proofs.calls.determinant.Statement.{statement}
 use Rattle.lu.proofs.calls.determinant.Tie as tie
-use Rattle.lu.proofs.calls.determinant.Reads as reads
-use Rattle.lu.proofs.calls.determinant.Lts as lts
-use Rattle.lu.proofs.question.ask_determinant.Reads as ask-determinant-reads
-use Rattle.lu.proofs.substitution.determinant.Reads as determinant-reads
 
 ask-determinant-requires : tie.Need-ask-determinant-requires
 ask-determinant-requires c κs = search needs

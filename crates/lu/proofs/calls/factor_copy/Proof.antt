@@ -6,10 +6,6 @@ use native.Mathlib.Omega.{arith}
 use borrow.Author.Needs.{needs}
 use Rattle.lu.proofs.calls.factor_copy.Statement.{statement}
 use Rattle.lu.proofs.calls.factor_copy.Tie as tie
-use Rattle.lu.proofs.calls.factor_copy.Reads as reads
-use Rattle.lu.proofs.calls.factor_copy.Lts as lts
-use Rattle.arithmetic.proofs.workspace.copy_in.Reads as copy-in-reads
-use Rattle.lu.proofs.workspace.factor_in.Reads as factor-in-reads
 
 copy-in-requires : tie.Need-copy-in-requires
 copy-in-requires c κs = let s = c .before .before .before .before in omega (arith, product64 (s .args .n) (s .args .n) (s .pre .0) (s .pre .0))

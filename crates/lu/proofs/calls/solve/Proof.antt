@@ -8,16 +8,9 @@ use Rattle.arithmetic.proofs.OutputLaws.{output-refused, output-done}
 use Rattle.lu.specs.Solve.{solvedMatrix}
 use Rattle.lu.specs.Calls.{solve, solveCall}
 use Rattle.lu.proofs.LuQuestionLaws.{solve-passed}
-use native.Mathlib.Omega.{arith}
 use borrow.Author.Needs.{needs}
 use Rattle.lu.proofs.calls.solve.Statement.{statement}
 use Rattle.lu.proofs.calls.solve.Tie as tie
-use Rattle.lu.proofs.calls.solve.Reads as reads
-use Rattle.lu.proofs.calls.solve.Lts as lts
-use Rattle.arithmetic.proofs.answer.done.Reads as done-reads
-use Rattle.arithmetic.proofs.answer.refused.Reads as refused-reads
-use Rattle.lu.proofs.calls.solve_into.Reads as solve-into-reads
-use Rattle.lu.proofs.question.ask_solve.Reads as ask-solve-reads
 
 ask-solve-requires : tie.Need-ask-solve-requires
 ask-solve-requires c κs = search needs

@@ -9,11 +9,6 @@ use native.Mathlib.Omega.{arith}
 use borrow.Author.Needs.{needs}
 use Rattle.lu.proofs.calls.solve_into.Statement.{statement}
 use Rattle.lu.proofs.calls.solve_into.Tie as tie
-use Rattle.lu.proofs.calls.solve_into.Reads as reads
-use Rattle.lu.proofs.calls.solve_into.Lts as lts
-use Rattle.arithmetic.proofs.matrix.copy_row.Reads as copy-row-reads
-use Rattle.lu.proofs.calls.column_room.Reads as column-room-reads
-use Rattle.lu.proofs.substitution.solve_columns.Reads as solve-columns-reads
 
 copy-row-requires : tie.Need-copy-row-requires
 copy-row-requires c κs = search needs
