@@ -131,10 +131,6 @@ grid-is r c f l e same =
     ∙ sym (getD-grid r c f (q / c) (q % c) i<r j<c)
     ∙ ap (item (grid r c f)) (div-add-mod' q c))
 
-pub length-column : (n m : ℕ) (b : List Float) (j : ℕ) → length (column n m b j) ≡ n
-unfolding column
-length-column n m b j = length-tab n _
-
 pub item-column : (n m : ℕ) (b : List Float) (j i : ℕ) → i < n → item (column n m b j) i ≡ at m b i j
 unfolding column
 item-column n m b j i h = getD-tab n _ i nan h

@@ -141,13 +141,6 @@ module _ (n i : ℕ) (h : ℕ → Float) (a : List Float) where
       let e : i * n + (q - i * n) ≡ q = omega arith in
       same (q - i * n) (omega arith) (omega arith) ∙ ap (λ k. getD a k nan) e)
 
-  -- what is read while the row is filled
-  pub row-new : (j c : ℕ) → c < j → i * n + c < length a → at n (rowTo n i h a j) i c ≡ h c
-  unfolding rowTo at
-  row-new j c b w =
-      let d : i * n + c - i * n ≡ c = omega arith in
-      patch-in (i * n) (i * n + j) (λ q. h (q - i * n)) a (i * n + c) nan (omega arith) (omega arith) w ∙ ap h d
-
   pub row-right : (j c : ℕ) → j ≤ c → i * n + c < length a → at n (rowTo n i h a j) i c ≡ at n a i c
   unfolding rowTo at
   row-right j c b w = patch-above (i * n) (i * n + j) (λ q. h (q - i * n)) a (i * n + c) nan (omega arith) (omega arith) w
@@ -157,12 +150,6 @@ module _ (n i : ℕ) (h : ℕ → Float) (a : List Float) where
   row-above j r c b d w =
       let e : r * n + c < i * n = index-lt b d in
       patch-below (i * n) (i * n + j) (λ q. h (q - i * n)) a (r * n + c) nan e w
-
-  pub row-under : (j r c : ℕ) → i < r → j ≤ n → r * n + c < length a → at n (rowTo n i h a j) r c ≡ at n a r c
-  unfolding rowTo at
-  row-under j r c b d w =
-      let e : suc i * n ≤ r * n = mul-le-mul-right n b in
-      patch-above (i * n) (i * n + j) (λ q. h (q - i * n)) a (r * n + c) nan (omega arith) (omega arith) w
 
 -- ---- a matrix that is filled from the top, row by row
 

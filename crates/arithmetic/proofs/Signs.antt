@@ -6,7 +6,7 @@ use native.Mathlib.Nat.{zero-mul}
 use native.Mathlib.Omega.{arith}
 use lib.IntN.{ℤ, pos}
 use lib.Dec.{T, eqb}
-use lib.Ieee.{Float, nan, inf, fin, Format, up, down, fits, isNan, lt, eq, neg}
+use lib.Ieee.{Float, nan, inf, fin, up, down, isNan, lt, eq, neg}
 use lib.Ieee.Fits.{up-pos}
 use lib.Ieee.Scale.{finite}
 use borrow.Author.Tests.{ltb-true, ltb-false, eqb-true}
@@ -72,13 +72,6 @@ plain-magnitude nan h = absurd h
 plain-magnitude (inf s) h = absurd h
 plain-magnitude (fin s zero e) h = (0, pos 0, refl)
 plain-magnitude (fin s (suc m) e) h = (suc m, e, refl)
-
-pub magnitude-fits : (f : Format) (x : Float) → T (fits f x) → T (fits f (magnitude x))
-unfolding fits magnitude
-magnitude-fits f nan h = tt
-magnitude-fits f (inf s) h = tt
-magnitude-fits f (fin s zero e) h = tt
-magnitude-fits f (fin s (suc m) e) h = h
 
 pub magnitude-number : (x : Float) → T (not (isNan x)) → T (not (isNan (magnitude x)))
 unfolding isNan magnitude

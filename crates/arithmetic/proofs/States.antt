@@ -102,14 +102,6 @@ step-store {S} {w₀} {w} {w′} {σ} t x h H e q l k ht hS = record {
     go s true p = record { sized = l; within = k; reads = rw (eqb-true s t p) (slot-store (h .order) w t y l room) }
     go s false p = far s (apart s (σ s .span) t (h .span)) refl
 
--- slot t is known to hold h
-pub step-known : {S : ℕ → Bool} {w₀ w : List Float} {σ : ℕ → Held} (t : ℕ) (h : Held) → State S w₀ w σ → Holds w t h → State S w₀ w (λ s. cond (eqb s t) h (σ s))
-step-known {S} {w₀} {w} {σ} t h H k = record { space = H .space; only = H .only; holds = λ s. go s (eqb s t) refl }
-  where
-    go : (s : ℕ) (b : Bool) → eqb s t ≡ b → Holds w s (cond b h (σ s))
-    go s true q = rw (eqb-true s t q) k
-    go s false q = H .holds s
-
 -- A call whose contract says what it changes: what reaches into a slot of ss is forgotten, and the rest is held as before.
 pub step-call : {S : ℕ → Bool} {w₀ w w′ : List Float} {σ : ℕ → Held} (ss : List ℕ)
     → State S w₀ w σ → Only (member ss) w w′ → ((s : ℕ) → S s ≡ false → member ss s ≡ false)

@@ -36,9 +36,6 @@ pub zero-fits : (f : Format) (s : Bool) → Fits f (zeroOf s)
 unfolding fits
 zero-fits f s = tt
 
-pub fits-of-zero : (f : Format) (x : Float) → Zero x → Fits f x
-fits-of-zero f x z = subst (λ (y : Float). Fits f y) (sym (z .1)) (zero-fits f (z .0))
-
 -- ---- constructors told apart
 abbrev finSign : Float → Bool
 finSign nan = false

@@ -17,7 +17,7 @@ use Rattle.arithmetic.specs.Product.{zeroM, dot, accumulateM, identityM, scaleM
 use Rattle.arithmetic.specs.Workspace.{Room, slot, store, member, Only, Squared}
 use Rattle.arithmetic.proofs.MatrixLaws.{grid-is, at-grid, square-le, length-grid}
 use Rattle.arithmetic.proofs.PartLaws.{part-put, part-put-apart, length-put, length-part}
-use Rattle.arithmetic.proofs.ProductLaws.{length-zeroM, at-tab, length-accumulateM, dot-more, length-identityM, length-mulM}
+use Rattle.arithmetic.proofs.ProductLaws.{length-zeroM, at-tab, length-accumulateM, dot-more}
 use Rattle.arithmetic.proofs.Slots.{only-trans, only-store, length-slot, only-refl}
 use Rattle.arithmetic.proofs.States.{held, Held, listed, State, start, step-identity, step-zero, step-accumulate, step-call, state-listed, holds-as, held-at, member-among, step-scale, step-copy-in, step-copy, step-mult, Holds}
 use Rattle.lu.specs.Lu.{luFactors, luPivots, luAt, luOutcome}
@@ -48,12 +48,6 @@ combination-more f n c a k =
     at-tab n (λ m. add f (item (combinationTo f n c a k) m) (mul f (c k) (item (power f n a k) m))) i j p q
     ∙ ap (λ (x : Float). add f x (mul f (c k) (at n (power f n a k) i j))) (at-grid n n (λ i j. dot f k c (λ m. at n (power f n a m) i j)) i j p q)
     ∙ sym (dot-more f k c (λ m. at n (power f n a m) i j)))
-
-pub length-power : (f : Format) (n : ℕ) (a : List Float) (k : ℕ) → length a ≡ n * n → length (power f n a k) ≡ n * n
-unfolding power
-length-power f n a zero e = length-identityM n
-length-power f n a (suc zero) e = e
-length-power f n a (suc (suc k)) e = length-mulM f n (power f n a (suc k)) a
 
 -- ---- the quotient, or the numerator in its place
 

@@ -16,9 +16,9 @@ use Rattle.arithmetic.specs.Float.{magnitude, one}
 use Rattle.arithmetic.specs.Matrix.{at, grid, withRow, rowTo, rowsTo, patch, part, put}
 use Rattle.arithmetic.proofs.Order.{split, same-or-not}
 use Rattle.arithmetic.proofs.MatrixLaws.{getD-tab, index-lt, at-grid, length-grid, grid-is, at-set-same, at-set-other}
-use Rattle.arithmetic.proofs.PatchLaws.{patch-is, patch-more, patch-all, patch-in, patch-below, patch-above, length-patch, row-none, row-more, row-skip, row-right, row-above, rows-none, rows-skip, rows-more, rows-all, rows-new, rows-old}
+use Rattle.arithmetic.proofs.PatchLaws.{patch-is, patch-more, patch-in, patch-below, patch-above, length-patch, row-none, row-more, row-skip, row-right, row-above, rows-none, rows-skip, rows-more, rows-all, rows-new, rows-old}
 use Rattle.arithmetic.proofs.PartLaws.{lent, returned, length-part}
-use Rattle.lu.specs.Lu.{pivotAmong, exchange, swapRows, reduced, subtracted, eliminated, tolerance, pivotRefused, pivotRow, luAt, luPivot, luFrom, luOutcome, luFactors, luPivots, columns, LuDone, LuDoneIn, multiplier}
+use Rattle.lu.specs.Lu.{pivotAmong, exchange, swapRows, reduced, subtracted, eliminated, tolerance, pivotRefused, pivotRow, luAt, luPivot, luFrom, luOutcome, luPivots, columns, LuDone, LuDoneIn, multiplier}
 use Rattle.lu.specs.declared.LuOutcome.{LuOutcome}
 use Rattle.lu.specs.declared.LuOutcome.the-variants.{Factored, Singular}
 use native.Mathlib.Numerals.{add-one}
@@ -305,16 +305,7 @@ pub pivot-in : (f : Format) (n : ℕ) (a : List Float) (k : ℕ) → k < n → (
 unfolding luPivot pivotRow
 pivot-in f n a k h = let p = pivot-from n (luAt f n a k) k (n - suc k) in (p .0, omega arith)
 
--- where all columns pass: the factors, the pivots, and each pivot a row from its column down
-module _ (f : Format) (n : ℕ) (a : List Float) (ps : List ℕ) (a' : List Float) (ps' : List ℕ) (r : LuOutcome) (d : LuDone f n a ps a' ps' r) (all : r ≡ Factored) where
-  pub done-factors : a' ≡ luFactors f n a
-  unfolding luFactors
-  done-factors = d .factors ∙ ap (λ o. luAt f n a (columns n o)) all
-
-  pub done-pivots : length ps ≡ n → ps' ≡ luPivots f n a
-  unfolding luPivots
-  done-pivots e = d .pivots ∙ ap (λ o. patch 0 (columns n o) (luPivot f n a) ps) all ∙ patch-all 0 n (luPivot f n a) ps e
-
+-- each pivot of the list is a row from its column down
 pub pivots-in : (f : Format) (n : ℕ) (a : List Float) (k : ℕ) → k < n → (k ≤ getD (luPivots f n a) k 0) × (getD (luPivots f n a) k 0 < n)
 unfolding luPivots
 pivots-in f n a k h = rw (getD-tab n (luPivot f n a) k 0 h) (pivot-in f n a k h)

@@ -35,10 +35,6 @@ swap-items n k p x hk hp size =
     (same-or-not i k))
     (same-or-not i p))
 
-pub length-swapItems : (n k p : ℕ) (x : List Float) → length (swapItems n k p x) ≡ n
-unfolding swapItems
-length-swapItems n k p x = length-tab n _
-
 pub permute-turn : (n : ℕ) (ps : List ℕ) (x₀ x x1 : List Float) (k p : ℕ) → k < n → p < n → length x ≡ n → x ≡ permuted n ps x₀ k → p ≡ getD ps k 0
     → x1 ≡ set (set x k (item x p)) p (item x k) → x1 ≡ permuted n ps x₀ (k + 1)
 unfolding permuted
