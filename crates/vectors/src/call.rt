@@ -31,7 +31,7 @@ fn count_room() -> [usize; 8]
 }
 
 // The counts at `at`. The second output's length and the exponent are passed over.
-pub fn shape(s: &[u8], at: usize) -> Shape
+pub fn read_shape(s: &[u8], at: usize) -> Shape
     requires { ⌜ at ≤ length (now s) ⌝ }
     ensures { λ r. ⌜ r .next ≤ length (now (s .entry)) ⌝ }
 {

@@ -1,5 +1,13 @@
 // Runs the recorded vectors that it reads on standard input, and compares every outcome, every output and what is left in the workspace bit
-// for bit, NaN as one value. It writes a line for each function: how many calls there are and how many differ.
+// for bit, NaN as one value. It writes a line for each function: how many calls there are and how many differ. host/README.md describes the
+// vectors. Those in the file stdin were made so, in the folder host, with FIGPUMICE_SOURCE set to the folder of the source:
+//
+//     for f in lu_compute lu_solve lu_determinant kron kron_sum; do cargo run --offline --release -q -p vectors -- $f 1 3000 | awk '
+//         $6 ~ /^(.?.?.|10..)$/ && (length < 12000 ? NR <= 75 || / no / && ++refused <= 40 : / no 4 / ? ++large <= 1 : / ok / && ++long <= 1)
+//     '; done > ../crates/vectors/stdin
+//
+// Of each function's 3,000 vectors these are the first 75 and the first 40 refusals, without lines of 12,000 bytes and more, and of those the
+// first refusal 4 and the first that is done; an output longer than 4,351 numbers is left out.
 ghost use mathlib.Core.Path.{_≡_};
 ghost use Prim.Native.Nat.{_≤_};
 ghost use lib.ListN.{length};
@@ -149,15 +157,18 @@ fn run_text(text: &[u8]) {
     }
 }
 
-// Room for the whole text.
-fn text_room() -> [u8; 1572864]
-    ensures { λ r. ⌜ 1572864 ≡ length r ⌝ }
-{
-    [0; 1572864]
+// Reads the whole text, for which there is room, and runs its vectors.
+fn run_input(text: &mut [u8]) {
+    let n = io::read_full(0, text);
+    run_text(&text[..n]);
+}
+
+// The room as a slice: its length is that of its type, and is not computed from its contents.
+fn run_with(room: &mut [u8; 1572864]) {
+    run_input(room);
 }
 
 fn main() {
-    let mut text = text_room();
-    let n = io::read_full(0, &mut text);
-    run_text(&text[..n]);
+    let mut room = [0u8; 1572864];
+    run_with(&mut room);
 }

@@ -29,7 +29,7 @@ pub const LENT: f64 = -77.25;
 // What every lent pivot holds before a call.
 pub const LENT_PIVOT: usize = 7_777;
 
-fn report(number: u64, first: usize, second: usize) -> Report {
+fn numbered(number: u64, first: usize, second: usize) -> Report {
     Report {
         number,
         first: first as u64,
@@ -40,20 +40,20 @@ fn report(number: u64, first: usize, second: usize) -> Report {
 // A refusal by its number in document 01.
 fn refusal_report(why: Refusal) -> Report {
     match why {
-        Refusal::EmptyMatrix => report(1, 0, 0),
-        Refusal::NotSquare(rows, columns) => report(2, rows, columns),
-        Refusal::CompanionShape(rows, columns) => report(3, rows, columns),
-        Refusal::TooLarge(count, limit) => report(4, count, limit),
-        Refusal::WrongLength(count, wanted) => report(5, count, wanted),
-        Refusal::EntryNotFinite(i, j) => report(6, i, j),
-        Refusal::DirectionNotFinite(i, j) => report(7, i, j),
-        Refusal::ExponentNotFinite => report(8, 0, 0),
-        Refusal::PivotOutOfRange(k, pivot) => report(9, k, pivot),
-        Refusal::NotDefined => report(10, 0, 0),
-        Refusal::OrderOne => report(11, 0, 0),
-        Refusal::NormNotFinite => report(12, 0, 0),
-        Refusal::NotConverged => report(13, 0, 0),
-        Refusal::SingularColumn(k) => report(14, k, 0),
+        Refusal::EmptyMatrix => numbered(1, 0, 0),
+        Refusal::NotSquare(rows, columns) => numbered(2, rows, columns),
+        Refusal::CompanionShape(rows, columns) => numbered(3, rows, columns),
+        Refusal::TooLarge(count, limit) => numbered(4, count, limit),
+        Refusal::WrongLength(count, wanted) => numbered(5, count, wanted),
+        Refusal::EntryNotFinite(i, j) => numbered(6, i, j),
+        Refusal::DirectionNotFinite(i, j) => numbered(7, i, j),
+        Refusal::ExponentNotFinite => numbered(8, 0, 0),
+        Refusal::PivotOutOfRange(k, pivot) => numbered(9, k, pivot),
+        Refusal::NotDefined => numbered(10, 0, 0),
+        Refusal::OrderOne => numbered(11, 0, 0),
+        Refusal::NormNotFinite => numbered(12, 0, 0),
+        Refusal::NotConverged => numbered(13, 0, 0),
+        Refusal::SingularColumn(k) => numbered(14, k, 0),
     }
 }
 
@@ -150,7 +150,8 @@ pub fn same_outputs(s: &[u8], at: usize, x: &[f64], pivots: &[usize]) -> bool
 pub fn same_answer(s: &[u8], outcome: Outcome, x: &[f64]) -> bool {
     let report = report_of(outcome);
     let recorded = recorded_outcome(s);
-    if !same_report(report, recorded.report) {
+    let wanted = recorded.report;
+    if !same_report(report, wanted) {
         return false;
     }
     if report.number == 0 {

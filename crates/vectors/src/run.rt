@@ -4,7 +4,7 @@ ghost use lib.ListN.{length};
 use crate::call::Shape;
 use crate::call::count_list;
 use crate::call::number_list;
-use crate::call::shape;
+use crate::call::read_shape;
 use crate::outcome::LENT;
 use crate::outcome::LENT_PIVOT;
 use crate::outcome::cleared_to;
@@ -54,7 +54,7 @@ fn pivot_room() -> [usize; 72]
     [LENT_PIVOT; 72]
 }
 
-fn verdict(same: bool) -> Verdict {
+fn judged(same: bool) -> Verdict {
     if same {
         Verdict::Same
     } else {
@@ -76,9 +76,11 @@ fn compute_agrees(
     want: &[u8],
 ) -> bool {
     let answer = lu::compute(shape.rows, shape.columns, a, factors, pivots, w);
-    let report = report_of(answer.outcome);
+    let outcome = answer.outcome;
+    let report = report_of(outcome);
     let recorded = recorded_outcome(want);
-    if !same_report(report, recorded.report) {
+    let wanted = recorded.report;
+    if !same_report(report, wanted) {
         return false;
     }
     if !cleared_to(w, cleared_after(report.number)) {
@@ -94,13 +96,19 @@ fn compute_agrees(
 fn run_compute(shape: Shape, a: &[f64], count: usize, want: &[u8]) -> Verdict {
     let output = shape.output;
     let size = shape.room;
-    if 4352 < output || 72 < count || 8320 < size {
+    if 4352 < output {
+        return Verdict::Skipped;
+    }
+    if 72 < count {
+        return Verdict::Skipped;
+    }
+    if 8320 < size {
         return Verdict::Skipped;
     }
     let mut factors = number_room();
     let mut pivots = pivot_room();
     let mut w = workspace_room();
-    verdict(compute_agrees(
+    judged(compute_agrees(
         shape,
         a,
         &mut factors[..output],
@@ -128,7 +136,8 @@ fn solve_agrees(
         b,
         out,
     );
-    same_answer(want, answer.outcome, out)
+    let outcome = answer.outcome;
+    same_answer(want, outcome, out)
 }
 
 fn kron_agrees(shape: Shape, a: &[f64], b: &[f64], out: &mut [f64], want: &[u8]) -> bool {
@@ -141,7 +150,8 @@ fn kron_agrees(shape: Shape, a: &[f64], b: &[f64], out: &mut [f64], want: &[u8])
         b,
         out,
     );
-    same_answer(want, answer.outcome, out)
+    let outcome = answer.outcome;
+    same_answer(want, outcome, out)
 }
 
 fn kron_sum_agrees(shape: Shape, a: &[f64], b: &[f64], out: &mut [f64], want: &[u8]) -> bool {
@@ -154,7 +164,8 @@ fn kron_sum_agrees(shape: Shape, a: &[f64], b: &[f64], out: &mut [f64], want: &[
         b,
         out,
     );
-    same_answer(want, answer.outcome, out)
+    let outcome = answer.outcome;
+    same_answer(want, outcome, out)
 }
 
 fn run_solve(shape: Shape, f: &[f64], b: &[f64], pivots: &[usize], want: &[u8]) -> Verdict {
@@ -163,7 +174,7 @@ fn run_solve(shape: Shape, f: &[f64], b: &[f64], pivots: &[usize], want: &[u8]) 
         return Verdict::Skipped;
     }
     let mut out = number_room();
-    verdict(solve_agrees(shape, f, b, pivots, &mut out[..output], want))
+    judged(solve_agrees(shape, f, b, pivots, &mut out[..output], want))
 }
 
 fn run_kron(shape: Shape, a: &[f64], b: &[f64], want: &[u8]) -> Verdict {
@@ -172,7 +183,7 @@ fn run_kron(shape: Shape, a: &[f64], b: &[f64], want: &[u8]) -> Verdict {
         return Verdict::Skipped;
     }
     let mut out = number_room();
-    verdict(kron_agrees(shape, a, b, &mut out[..output], want))
+    judged(kron_agrees(shape, a, b, &mut out[..output], want))
 }
 
 fn run_kron_sum(shape: Shape, a: &[f64], b: &[f64], want: &[u8]) -> Verdict {
@@ -181,22 +192,24 @@ fn run_kron_sum(shape: Shape, a: &[f64], b: &[f64], want: &[u8]) -> Verdict {
         return Verdict::Skipped;
     }
     let mut out = number_room();
-    verdict(kron_sum_agrees(shape, a, b, &mut out[..output], want))
+    judged(kron_sum_agrees(shape, a, b, &mut out[..output], want))
 }
 
 // The determinant is +0 beside a refusal.
 fn run_determinant(shape: Shape, f: &[f64], pivots: &[usize], want: &[u8]) -> Verdict {
     let answer = lu::determinant(shape.rows, shape.columns, f, pivots);
-    let report = report_of(answer.outcome);
+    let outcome = answer.outcome;
+    let report = report_of(outcome);
     let recorded = recorded_outcome(want);
-    if !same_report(report, recorded.report) {
+    let wanted = recorded.report;
+    if !same_report(report, wanted) {
         return Verdict::Differs;
     }
     let value = [answer.value; 1];
     if report.number == 0 {
-        verdict(same_outputs(want, recorded.next, &value, &[]))
+        judged(same_outputs(want, recorded.next, &value, &[]))
     } else {
-        verdict(cleared_to(&value, 1) && recorded.next == want.len())
+        judged(cleared_to(&value, 1) && recorded.next == want.len())
     }
 }
 
@@ -227,7 +240,7 @@ fn run_in(
     pivots: &mut [usize],
 ) -> Verdict {
     let start = after(line, 0, b' ');
-    let shape = shape(line, start);
+    let shape = read_shape(line, start);
     let first = number_list(line, shape.next, a);
     let second = number_list(line, first.next, b);
     let third = count_list(line, second.next, pivots);

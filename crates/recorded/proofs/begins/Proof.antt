@@ -1,12 +1,9 @@
 -- `begins` is safe and ends. The invariant: `i` is at most the length of `t`. Assumes nothing.
 use Prim.Native.Nat.{_-_, _≤_}
 use lib.ListN.{length}
-use native.Mathlib.Omega.{arith}
 use borrow.Author.Needs.{needs}
 use Rattle.recorded.proofs.begins.Statement.{statement}
 use Rattle.recorded.proofs.begins.Tie as tie
-use Rattle.recorded.proofs.begins.Reads as reads
-use Rattle.recorded.proofs.begins.Lts as lts
 
 abbrev Inv-loop : tie.InvT-loop
 Inv-loop s t i₀ i = (i ≤ length t) × (length t ≤ length s)
@@ -14,39 +11,30 @@ Inv-loop s t i₀ i = (i ≤ length t) × (length t ≤ length s)
 abbrev μ-loop : tie.MeasureT-loop
 μ-loop s t i₀ i = length t - i
 
--- src/lib.rt:74:9
 returns : tie.Need-returns Inv-loop μ-loop
 returns c = search needs
 
--- src/lib.rt:77:5
 loop-holds : tie.Need-loop-holds Inv-loop μ-loop
 loop-holds c = search needs
 
--- src/lib.rt:78:12
 shared-slice-read-if2 : tie.Need-shared-slice-read-if2 Inv-loop μ-loop
 shared-slice-read-if2 c = search needs
 
--- src/lib.rt:78:20
 shared-slice-read-if2-2 : tie.Need-shared-slice-read-if2-2 Inv-loop μ-loop
 shared-slice-read-if2-2 c = search needs
 
--- src/lib.rt:79:13
 returns-2 : tie.Need-returns-2 Inv-loop μ-loop
 returns-2 c = search needs
 
--- src/lib.rt:81:9
 add-i : tie.Need-add-i Inv-loop μ-loop
 add-i c = search needs
 
--- src/lib.rt:77:5
 loop-less : tie.Need-loop-less Inv-loop μ-loop
 loop-less c = search needs
 
--- src/lib.rt:77:5
 loop-again : tie.Need-loop-again Inv-loop μ-loop
 loop-again c = search needs
 
--- src/lib.rt:72:1
 returns-3 : tie.Need-returns-3 Inv-loop μ-loop
 returns-3 c = search needs
 

@@ -2,14 +2,9 @@
 use mathlib.Core.Path.{_≡_}
 use Prim.Native.Nat.{_-_, _≤_}
 use lib.ListN.{length, length-set}
-use native.Mathlib.Omega.{arith}
 use borrow.Author.Needs.{needs}
 use Rattle.recorded.proofs.numbers.Statement.{statement}
 use Rattle.recorded.proofs.numbers.Tie as tie
-use Rattle.recorded.proofs.numbers.Reads as reads
-use Rattle.recorded.proofs.numbers.Lts as lts
-use Rattle.arithmetic.proofs.float.float_of.Reads as float-of-reads
-use Rattle.recorded.proofs.word.Reads as word-reads
 
 abbrev Inv-loop : tie.InvT-loop
 Inv-loop s at into₀ next₀ i₀ into next i = (i ≤ length into₀) × (length into ≡ length into₀) × (next ≤ length s)
@@ -17,43 +12,33 @@ Inv-loop s at into₀ next₀ i₀ into next i = (i ≤ length into₀) × (leng
 abbrev μ-loop : tie.MeasureT-loop
 μ-loop s at into₀ next₀ i₀ into next i = length into₀ - i
 
--- src/lib.rt:109:5
 loop-holds : tie.Need-loop-holds Inv-loop μ-loop
 loop-holds c = search needs
 
--- src/lib.rt:110:13
 word-requires : tie.Need-word-requires Inv-loop μ-loop
 word-requires c κs = search needs
 
--- src/lib.rt:111:19
 float-of-requires : tie.Need-float-of-requires Inv-loop μ-loop
 float-of-requires c κs = search needs
 
--- src/lib.rt:111:9
 mul-into : tie.Need-mul-into Inv-loop μ-loop
 mul-into c = search needs
 
--- src/lib.rt:111:9
 slice-write-into : tie.Need-slice-write-into Inv-loop μ-loop
 slice-write-into c = search needs
 
--- src/lib.rt:113:9
 add-i : tie.Need-add-i Inv-loop μ-loop
 add-i c = search needs
 
--- src/lib.rt:109:5
 loop-less : tie.Need-loop-less Inv-loop μ-loop
 loop-less c = search needs
 
--- src/lib.rt:109:5
 loop-again : tie.Need-loop-again Inv-loop μ-loop
 loop-again c = (search needs, simp length-set (c .before .before .before .loop .inv .1), search needs)
 
--- src/lib.rt:103:1
 same-length : tie.Need-same-length Inv-loop μ-loop
 same-length c = search needs
 
--- src/lib.rt:103:1
 returns : tie.Need-returns Inv-loop μ-loop
 returns c = search needs
 
