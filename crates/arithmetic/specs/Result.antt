@@ -31,7 +31,6 @@ exit read (done s a) lent = read a
 
 -- the workspace at exit: as it was lent after the refusals 1 to 11, and otherwise cleared
 unfoldable pub workspace : {A : Type 0} → Result A → List Float → List Float
-unfolding cleared
 workspace (refused k x y) w = cond (leb k 11) w (cleared w)
 workspace (done s a) w = cleared w
 

@@ -89,7 +89,7 @@ module _ (rows columns : ℕ) (a : List Float) (ps : List ℕ) where
 
 -- ---- no product of two numbers up to 64 is too large
 
-product64 : (x y : ℕ) → x ≤ 64 → y ≤ 64 → x * y ≤ 4096
+pub product64 : (x y : ℕ) → x ≤ 64 → y ≤ 64 → x * y ≤ 4096
 product64 x y h k = mul-le-mul {n₁ = x} {m₁ = y} {n₂ = 64} {m₂ = 64} h k
 
 square-yes : (rows columns : ℕ) → Yes (ask (eqb rows columns) 2 rows columns) → rows ≡ columns

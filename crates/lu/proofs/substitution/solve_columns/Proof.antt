@@ -8,9 +8,6 @@ use native.Mathlib.Omega.{arith}
 use borrow.Author.Needs.{needs}
 use Rattle.lu.proofs.substitution.solve_columns.Statement.{statement}
 use Rattle.lu.proofs.substitution.solve_columns.Tie as tie
-use Rattle.lu.proofs.substitution.solve_columns.Reads as reads
-use Rattle.lu.proofs.substitution.solve_columns.Lts as lts
-use Rattle.lu.proofs.substitution.solve_one_column.Reads as solve-one-column-reads
 
 abbrev Inv-loop : tie.InvT-loop
 Inv-loop f n pivots x₀ m c₀ j₀ x c j = (j ≤ m) × (length c ≡ n) × (length x ≡ n * m) × (x ≡ solvedTo binary64 n m f pivots x₀ j)

@@ -1,13 +1,7 @@
 -- `solve_one_column` meets its contract: the column is copied out, solved and copied back. Assumes nothing.
-use native.Mathlib.Omega.{arith}
 use borrow.Author.Needs.{needs}
 use Rattle.lu.proofs.substitution.solve_one_column.Statement.{statement}
 use Rattle.lu.proofs.substitution.solve_one_column.Tie as tie
-use Rattle.lu.proofs.substitution.solve_one_column.Reads as reads
-use Rattle.lu.proofs.substitution.solve_one_column.Lts as lts
-use Rattle.lu.proofs.substitution.solve_column.Reads as solve-column-reads
-use Rattle.lu.proofs.workspace.load_column.Reads as load-column-reads
-use Rattle.lu.proofs.workspace.store_column.Reads as store-column-reads
 
 load-column-requires : tie.Need-load-column-requires
 load-column-requires c κs = search needs

@@ -1,0 +1,107 @@
+-- What the public calls of LU leave. Assumes nothing.
+use Prim.Native.Nat.{ℕ, _*_, _≤_}
+use native.Mathlib.Omega.{arith}
+use mathlib.Core.Path.{_≡_, refl, sym, ap, _∙_}
+use mathlib.Core.List.{List}
+use lib.Dec.{ltb}
+use lib.ListN.{length}
+use lib.Ieee.{Float, Format}
+use Rattle.arithmetic.specs.Matrix.{patch, part, put}
+use Rattle.arithmetic.specs.Workspace.{store, cleared, Only}
+use Rattle.arithmetic.specs.Result.{Result, outcome, exit, workspace}
+use Rattle.arithmetic.specs.Answers.{numbered, reported, found}
+use Rattle.arithmetic.specs.Questions.{asked, ofCompute}
+use Rattle.arithmetic.specs.declared.answer.Outcome.{Outcome}
+use Rattle.arithmetic.specs.declared.answer.Question.{Question}
+use Rattle.arithmetic.specs.declared.answer.Question.the-variants.{Passed, No}
+use Rattle.arithmetic.specs.declared.answer.Refusal.{Refusal}
+use Rattle.arithmetic.proofs.PatchLaws.{patch-all}
+use Rattle.arithmetic.proofs.PartLaws.{part-put, put-put}
+use Rattle.arithmetic.proofs.Slots.{only-run, cleared-only}
+use Rattle.arithmetic.proofs.AnswerLaws.{answer-passed, outcome-no, exit-no, workspace-no}
+use Rattle.lu.specs.Lu.{luAt, luPivot, luOutcome, luFactors, luPivots, columns, LuDoneIn}
+use Rattle.lu.specs.Solve.{standIn}
+use Rattle.lu.specs.Calls.{Factorisation, factorised, compute, computeCall, luReport, FactoredCopy, Computing, Computed}
+use Rattle.lu.specs.declared.LuOutcome.{LuOutcome}
+use Rattle.lu.specs.declared.LuOutcome.the-variants.{Factored, Singular}
+use Rattle.lu.proofs.LuLaws.{length-luAt}
+
+module _ (f : Format) (n : ℕ) (a w : List Float) (size : length a ≡ n * n) (room : n * n ≤ length w) where
+  -- a copy stands where it was stored, and what replaces it replaces what stood there before
+  copied : part (store w 0 a) 0 (n * n) ≡ a
+  unfolding store
+  copied = part-put w 0 a (n * n) size (omega arith)
+
+  replaced : (x : List Float) → length x ≡ n * n → put (store w 0 a) 0 x ≡ put w 0 x
+  unfolding store
+  replaced x e = put-put w 0 a x (size ∙ sym e) (omega arith)
+
+  -- the copy is factored as the matrix is
+  pub factored-copy : (ps : List ℕ) (w1 w2 : List Float) (ps′ : List ℕ) (r : LuOutcome) → w1 ≡ store w 0 a → LuDoneIn f n 0 w1 ps w2 ps′ r → FactoredCopy f n a w ps w2 ps′ r
+  factored-copy ps w1 w2 ps′ r e d =
+      let c : part w1 0 (n * n) ≡ a = ap (λ (l : List Float). part l 0 (n * n)) e ∙ copied in
+      record {
+        outcome = d .outcome ∙ ap (luOutcome f n) c;
+        factors = d .factors ∙ (λ i. put (e i) 0 (luAt f n (c i) (columns n r))) ∙ replaced (luAt f n a (columns n r)) (length-luAt f n a (columns n r) size);
+        pivots = d .pivots ∙ ap (λ (l : List Float). patch 0 (columns n r) (luPivot f n l) ps) c;
+      }
+
+  module _ (small : n ≤ 64) (rows : List ℕ) (w1 : List Float) (rows1 : List ℕ) (r : LuOutcome) (d : FactoredCopy f n a w rows w1 rows1 r) (few : n * n ≤ 4096) where
+    within : Only (λ s. ltb s 32) w w1
+    unfolding store
+    within =
+        let e : length (luAt f n a (columns n r)) ≡ n * n = length-luAt f n a (columns n r) size in
+        rw (d .factors) (only-run (λ s. ltb s 32) w 0 16 (luAt f n a (columns n r)) refl (omega arith))
+
+    -- every column passes: the factors and the pivots are copied out
+    pub computing-all : (fs fs′ : List Float) (ps ps′ : List ℕ) → r ≡ Factored → length rows ≡ n → length fs ≡ n * n → fs′ ≡ part w1 0 (length fs) → ps′ ≡ rows1
+        → Computing f n a fs fs′ ps ps′ w w1 Factored
+    unfolding luFactors luPivots
+    computing-all fs fs′ ps ps′ e l k u v =
+        let s : length (luAt f n a n) ≡ n * n = length-luAt f n a n size in
+        record {
+          outcome = sym e ∙ d .outcome;
+          factors = u ∙ rw (k, d .factors, e) (part-put w 0 (luAt f n a n) (n * n) s (omega arith));
+          pivots = v ∙ rw (d .pivots, e) (patch-all 0 n (luPivot f n a) rows l);
+          only = within;
+        }
+
+    -- a column does not pass: nothing is copied
+    pub computing-none : (fs : List Float) (ps : List ℕ) (k : ℕ) → r ≡ Singular k → Computing f n a fs fs ps ps w w1 (Singular k)
+    computing-none fs ps k e = record { outcome = sym e ∙ d .outcome; factors = refl; pivots = refl; only = within }
+
+-- ---- compute
+
+module _ (f : Format) (rows columns : ℕ) (a : List Float) (fs : List Float) (ps : List ℕ) (w : List Float) (q : Question)
+    (h : found q ≡ asked ofCompute (computeCall rows columns a ps (length fs) (length w))) (o : Outcome) where
+  whole : Result Factorisation
+  whole = factorised (luOutcome f rows a) (record { factors = luFactors f rows a; pivotRows = luPivots f rows a })
+
+  -- a question refuses: all is as it was lent
+  pub compute-refused : (x : Refusal) → q ≡ No x → reported o ≡ numbered x → Computed (compute f rows columns a ps (length fs) (length w)) o fs fs ps ps w w
+  unfolding compute whole
+  compute-refused x e k =
+      let c = computeCall rows columns a ps (length fs) (length w) in
+      record {
+        outcome = k ∙ sym (outcome-no ofCompute c whole q h x e);
+        factors = sym (exit-no ofCompute c whole q h x e (λ (l : Factorisation). l .factors) fs);
+        pivots = sym (exit-no ofCompute c whole q h x e (λ (l : Factorisation). l .pivotRows) ps);
+        workspace = sym (workspace-no ofCompute c whole q h x e w);
+      }
+
+  -- none does: LU decides
+  pub compute-done : (fs′ : List Float) (ps′ : List ℕ) (w1 w2 : List Float) (r : LuOutcome) → q ≡ Passed → 8192 ≤ length w → Computing f rows a fs fs′ ps ps′ w w1 r
+      → w2 ≡ cleared w1 → reported o ≡ luReport r → Computed (compute f rows columns a ps (length fs) (length w)) o fs fs′ ps ps′ w w2
+  unfolding compute whole outcome exit workspace
+  compute-done fs′ ps′ w1 w2 r e room d v k =
+      let c = computeCall rows columns a ps (length fs) (length w) in
+      rw (answer-passed ofCompute c whole q h e)
+      (go (luOutcome f rows a) (d .factors ∙ ap (λ (z : LuOutcome). standIn z (luFactors f rows a) fs) (d .outcome)) (d .pivots ∙ ap (λ (z : LuOutcome). standIn z (luPivots f rows a) ps) (d .outcome)) (k ∙ ap luReport (d .outcome)))
+    where
+      clear : w2 ≡ cleared w
+      clear = v ∙ cleared-only w w1 room (d .only)
+
+      go : (z : LuOutcome) → fs′ ≡ standIn z (luFactors f rows a) fs → ps′ ≡ standIn z (luPivots f rows a) ps → reported o ≡ luReport z
+          → Computed (factorised z (record { factors = luFactors f rows a; pivotRows = luPivots f rows a })) o fs fs′ ps ps′ w w2
+      go Factored p s t = record { outcome = t; factors = p; pivots = s; workspace = clear }
+      go (Singular j) p s t = record { outcome = t; factors = p; pivots = s; workspace = clear }
