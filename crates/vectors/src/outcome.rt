@@ -1,0 +1,162 @@
+// Outcomes as numbers, and the comparison of a call's outcome and outputs with what was recorded.
+ghost use Prim.Native.Nat.{_≤_};
+ghost use lib.ListN.{length};
+use arithmetic::answer::Outcome;
+use arithmetic::answer::Refusal;
+use arithmetic::float::bits_of;
+use recorded::after;
+use recorded::begins;
+use recorded::same_counts;
+use recorded::same_numbers;
+use recorded::word;
+
+// An outcome: number 0 and the halvings, or the refusal's number and its two details.
+pub struct Report {
+    pub number: u64,
+    pub first: u64,
+    pub second: u64,
+}
+
+// The recorded outcome, and where the recorded outputs start.
+pub struct Recorded {
+    pub report: Report,
+    pub next: usize,
+}
+
+// What every lent number holds before a call.
+pub const LENT: f64 = -77.25;
+
+// What every lent pivot holds before a call.
+pub const LENT_PIVOT: usize = 7_777;
+
+fn numbered(number: u64, first: usize, second: usize) -> Report {
+    Report {
+        number,
+        first: first as u64,
+        second: second as u64,
+    }
+}
+
+// A refusal by its number in document 01.
+fn refusal_report(why: Refusal) -> Report {
+    match why {
+        Refusal::EmptyMatrix => numbered(1, 0, 0),
+        Refusal::NotSquare(rows, columns) => numbered(2, rows, columns),
+        Refusal::CompanionShape(rows, columns) => numbered(3, rows, columns),
+        Refusal::TooLarge(count, limit) => numbered(4, count, limit),
+        Refusal::WrongLength(count, wanted) => numbered(5, count, wanted),
+        Refusal::EntryNotFinite(i, j) => numbered(6, i, j),
+        Refusal::DirectionNotFinite(i, j) => numbered(7, i, j),
+        Refusal::ExponentNotFinite => numbered(8, 0, 0),
+        Refusal::PivotOutOfRange(k, pivot) => numbered(9, k, pivot),
+        Refusal::NotDefined => numbered(10, 0, 0),
+        Refusal::OrderOne => numbered(11, 0, 0),
+        Refusal::NormNotFinite => numbered(12, 0, 0),
+        Refusal::NotConverged => numbered(13, 0, 0),
+        Refusal::SingularColumn(k) => numbered(14, k, 0),
+    }
+}
+
+pub fn report_of(outcome: Outcome) -> Report {
+    match outcome {
+        Outcome::Done { halvings } => Report {
+            number: 0,
+            first: halvings,
+            second: 0,
+        },
+        Outcome::Refused(why) => refusal_report(why),
+    }
+}
+
+// The recorded outcome with which s starts: `ok HALVINGS`, or `no NUMBER DETAIL DETAIL`.
+pub fn recorded_outcome(s: &[u8]) -> Recorded
+    ensures { λ r. ⌜ r .next ≤ length (now (s .entry)) ⌝ }
+{
+    let at = after(s, 0, b' ');
+    let one = word(s, at);
+    if begins(s, b"ok ") {
+        return Recorded {
+            report: Report {
+                number: 0,
+                first: one.value,
+                second: 0,
+            },
+            next: one.next,
+        };
+    }
+    let two = word(s, one.next);
+    let three = word(s, two.next);
+    Recorded {
+        report: Report {
+            number: one.value,
+            first: two.value,
+            second: three.value,
+        },
+        next: three.next,
+    }
+}
+
+pub fn same_report(a: Report, b: Report) -> bool {
+    a.number == b.number && a.first == b.first && a.second == b.second
+}
+
+// Whether the first numbers of x, `cleared` of them, are +0 and the others are as they were lent.
+pub fn cleared_to(x: &[f64], cleared: usize) -> bool {
+    let mut i = 0;
+    while i < x.len() {
+        if !is_left(x[i], i < cleared) {
+            return false;
+        }
+        i += 1;
+    }
+    true
+}
+
+// Whether x is +0, or as it was lent.
+fn is_left(x: f64, cleared: bool) -> bool {
+    if cleared {
+        bits_of(x) == 0
+    } else {
+        bits_of(x) == bits_of(LENT)
+    }
+}
+
+// Whether the pivots are as they were lent.
+pub fn pivots_as_lent(x: &[usize]) -> bool {
+    let mut i = 0;
+    while i < x.len() {
+        if x[i] != LENT_PIVOT {
+            return false;
+        }
+        i += 1;
+    }
+    true
+}
+
+// Whether the recorded outputs at `at`, the last of s, are x, nothing and the pivots.
+pub fn same_outputs(s: &[u8], at: usize, x: &[f64], pivots: &[usize]) -> bool
+    requires { ⌜ at ≤ length (now s) ⌝ }
+{
+    let first = same_numbers(s, at, x);
+    if !first.same {
+        return false;
+    }
+    let second = word(s, first.next);
+    let third = same_counts(s, second.next, pivots);
+    second.value == 0 && third.same && third.next == s.len()
+}
+
+// Whether an outcome is the recorded one, and x what was recorded or, after a refusal, as it was lent.
+pub fn same_answer(s: &[u8], outcome: Outcome, x: &[f64]) -> bool {
+    let report = report_of(outcome);
+    let recorded = recorded_outcome(s);
+    let wanted = recorded.report;
+    if !same_report(report, wanted) {
+        return false;
+    }
+    if report.number == 0 {
+        same_outputs(s, recorded.next, x, &[])
+    } else {
+        cleared_to(x, 0) && recorded.next == s.len()
+    }
+}
