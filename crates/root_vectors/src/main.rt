@@ -1,8 +1,8 @@
 // Runs the recorded square roots that it reads on standard input: a number's bits and its root's, a pair to a line.
 // It writes how many there are and how many differ.
-use arithmetic::float::bits_of;
 use arithmetic::float::float_of;
 use arithmetic::root::sqrt;
+use recorded::has_bits;
 use recorded::word;
 
 struct Tally {
@@ -27,7 +27,7 @@ impl Tally {
 }
 
 fn same_root(x: u64, root: u64) -> bool {
-    bits_of(sqrt(float_of(x))) == bits_of(float_of(root))
+    has_bits(sqrt(float_of(x)), root)
 }
 
 fn run(text: &[u8]) -> Tally {
