@@ -1,17 +1,48 @@
 -- What a call leaves once its questions are asked. Assumes nothing.
-use Prim.Native.Nat.{ℕ}
-use mathlib.Core.Path.{_≡_, ap, sym, _∙_}
+use Prim.Native.Nat.{ℕ, _*_, _≤_}
+use native.Mathlib.Omega.{arith}
+use mathlib.Core.Path.{_≡_, refl, ap, sym, _∙_}
+use mathlib.Core.Bool.{Bool, true, cond}
 use mathlib.Core.List.{List}
+use lib.Dec.{ltb, leb}
+use lib.ListN.{length}
 use lib.Ieee.{Float}
-use Rattle.arithmetic.specs.Result.{Result, done, outcome, exit}
+use borrow.Author.Tests.{lt-leb}
+use Rattle.arithmetic.specs.Matrix.{part}
+use Rattle.arithmetic.specs.Workspace.{slot, store, cleared, member, Only}
+use Rattle.arithmetic.specs.Result.{Result, refused, done, _>>=_, outcome, exit, workspace}
 use Rattle.arithmetic.specs.Questions.{Call, Profile, asked, answer}
 use Rattle.arithmetic.specs.Answers.{numbered, reported, found}
+use Rattle.arithmetic.specs.Outputs.{OneOutput, OneOutputIn, Replaced, Delivered}
 use Rattle.arithmetic.specs.declared.answer.Outcome.{Outcome}
+use Rattle.arithmetic.specs.declared.answer.Outcome.the-variants.{Done, Refused}
 use Rattle.arithmetic.specs.declared.answer.Question.{Question}
 use Rattle.arithmetic.specs.declared.answer.Question.the-variants.{Passed, No}
 use Rattle.arithmetic.specs.declared.answer.Refusal.{Refusal}
-use Rattle.arithmetic.proofs.AnswerLaws.{answer-passed, outcome-no, exit-no}
-use Rattle.arithmetic.specs.Outputs.{OneOutput}
+use Rattle.arithmetic.proofs.MatrixLaws.{square-le}
+use Rattle.arithmetic.proofs.Slots.{slot-store, only-store, only-trans, only-more, cleared-only}
+use Rattle.arithmetic.proofs.States.{among, member-among}
+use Rattle.arithmetic.proofs.QuestionLaws.{as-refused}
+use Rattle.arithmetic.proofs.AnswerLaws.{answer-passed, outcome-no, exit-no, workspace-no}
+
+-- ---- refusals met on the way: 12, 13, 14
+
+abbrev pub Late : {A : Type 0} → Result A → Type 0
+Late (refused k x y) = 12 ≤ k
+Late (done s a) = Unit {0}
+
+-- they clear the workspace, as what is done does
+pub late-workspace : {A : Type 0} (r : Result A) (w : List Float) → Late r → workspace r w ≡ cleared w
+unfolding workspace
+late-workspace (refused k x y) w h = ap (λ (b : Bool). cond b w (cleared w)) (lt-leb k 11 (omega arith))
+late-workspace (done s a) w h = refl
+
+pub late-bind : {A B : Type 0} (r : Result A) (g : A → Result B) → Late r → ((a : A) → Late (g a)) → Late (r >>= g)
+unfolding _>>=_
+late-bind (refused k x y) g h l = h
+late-bind (done s a) g h l = l a
+
+-- ---- one output, no workspace
 
 module _ (p : Profile) (c : Call) (q : Question) (h : found q ≡ asked p c) (o : Outcome) (before : List Float) where
   -- a question refuses: the output is as it was lent
@@ -29,3 +60,58 @@ module _ (p : Profile) (c : Call) (q : Question) (h : found q ≡ asked p c) (o 
     outcome = k ∙ sym (ap outcome (answer-passed p c (done s v) q h e));
     output = w ∙ sym (ap (λ (z : Result (List Float)). exit (λ v. v) z before) (answer-passed p c (done s v) q h e));
   }
+
+-- ---- one output and a workspace
+
+-- the two ends of a delivery
+pub delivered-done : (given o : Outcome) (v before after w w′ : List Float) (s : ℕ) → given ≡ Done s → reported o ≡ done s tt → after ≡ v → w′ ≡ cleared w → Delivered given o v before after w w′
+unfolding exit
+delivered-done given o v before after w w′ s e k x y = record { outcome = k ∙ sym (ap reported e); output = x ∙ sym (ap (λ (z : Outcome). exit (λ _. v) (reported z) before) e); workspace = y }
+
+pub delivered-none : (given o : Outcome) (v before w w′ : List Float) (x : Refusal) → given ≡ Refused x → reported o ≡ numbered x → w′ ≡ cleared w → Delivered given o v before before w w′
+unfolding exit
+delivered-none given o v before w w′ x e k y =
+    let (i, j, l, n) = as-refused x in
+    record { outcome = k ∙ sym (ap reported e); output = sym (ap (λ (z : Outcome). exit (λ _. v) (reported z) before) e ∙ ap (λ (z : Result (Unit {0})). exit (λ _. v) z before) n); workspace = y }
+
+-- slot 0 is delivered where the definition, x, is done
+delivered : (x : Result (List Float)) (given o : Outcome) (v before after w w2 w3 : List Float) → Late x → reported given ≡ outcome x → v ≡ exit (λ v. v) x v
+    → Delivered given o v before after w2 w3 → cleared w2 ≡ cleared w → OneOutputIn x o before after w w3
+unfolding outcome exit
+delivered (refused k i j) given o v before after w w2 w3 l p r D e = record {
+  outcome = D .outcome ∙ p;
+  output = D .output ∙ ap (λ (z : Result (Unit {0})). exit (λ _. v) z before) p;
+  workspace = D .workspace ∙ e ∙ sym (late-workspace {A = List Float} (refused k i j) w l);
+}
+delivered (done s x) given o v before after w w2 w3 l p r D e = record {
+  outcome = D .outcome ∙ p;
+  output = D .output ∙ ap (λ (z : Result (Unit {0})). exit (λ _. v) z before) p ∙ r;
+  workspace = D .workspace ∙ e ∙ sym (late-workspace {A = List Float} (done s x) w l);
+}
+
+-- what works in slots 0 to 31 is forgotten once they are cleared
+pub cleared-among : (ss : List ℕ) (w w′ : List Float) → 8192 ≤ length w → among (λ s. ltb s 32) ss ≡ true → Only (member ss) w w′ → cleared w′ ≡ cleared w
+cleared-among ss w w′ room m o = cleared-only w w′ room (only-more (member-among (λ s. ltb s 32) ss m) o)
+
+module _ (p : Profile) (c : Call) (q : Question) (h : found q ≡ asked p c) (o : Outcome) (before w : List Float) where
+  -- a question refuses: output and workspace are as they were lent
+  pub one-refused : (r : Result (List Float)) (x : Refusal) → q ≡ No x → reported o ≡ numbered x → OneOutputIn (answer p c r) o before before w w
+  one-refused r x e k = record {
+    outcome = k ∙ sym (outcome-no p c r q h x e);
+    output = sym (exit-no p c r q h x e (λ v. v) before);
+    workspace = sym (workspace-no p c r q h x e w);
+  }
+
+  -- none does: the matrix a is copied to slot 0, replaced by what g gives for it, and delivered
+  pub one-done : (ss : List ℕ) (n : ℕ) (g : List Float → Result (List Float)) (a after w1 w2 w3 : List Float) (given : Outcome) → q ≡ Passed → Late (g a)
+      → n ≤ 16 → 8192 ≤ length w → length a ≡ n * n → length before ≡ n * n → among (λ s. ltb s 32) ss ≡ true
+      → w1 ≡ store w 0 a → Replaced ss n (g (slot n w1 0)) given w1 w2 → Delivered given o (part w2 0 (length before)) before after w2 w3 → OneOutputIn (answer p c (g a)) o before after w w3
+  unfolding slot
+  one-done ss n g a after w1 w2 w3 given e l small room size long m e1 R D =
+      let few = square-le n small in
+      let a1 : slot n w1 0 ≡ a = ap (λ (z : List Float). slot n z 0) e1 ∙ slot-store n w 0 a size (omega arith) in
+      let within : Only (λ s. ltb s 32) w w1 = rw e1 (only-store (λ s. ltb s 32) w 0 a refl (omega arith)) in
+      let all = only-trans within (only-more (member-among (λ s. ltb s 32) ss m) (R .only)) in
+      let R′ : Replaced ss n (g a) given w1 w2 = rw a1 at R in
+      let D′ : Delivered given o (slot n w2 0) before after w2 w3 = rw long at D in
+      rw (answer-passed p c (g a) q h e) (delivered (g a) given o (slot n w2 0) before after w w2 w3 l (R′ .outcome) (R′ .result) D′ (cleared-only w w2 room all))

@@ -1,8 +1,10 @@
 -- What a call leaves, of the result that its definition gives. Definitions only.
+use Prim.Native.Nat.{ℕ}
 use mathlib.Core.Path.{_≡_}
 use mathlib.Core.List.{List}
 use lib.Ieee.{Float}
-use Rattle.arithmetic.specs.Result.{Result, exit, outcome as outcomeOf}
+use Rattle.arithmetic.specs.Workspace.{slot, member, Only, cleared}
+use Rattle.arithmetic.specs.Result.{Result, exit, outcome as outcomeOf, workspace as workspaceOf}
 use Rattle.arithmetic.specs.Answers.{reported}
 use Rattle.arithmetic.specs.declared.answer.Outcome.{Outcome}
 
@@ -10,3 +12,35 @@ use Rattle.arithmetic.specs.declared.answer.Outcome.{Outcome}
 pub record OneOutput (x : Result (List Float)) (o : Outcome) (before after : List Float) : Type 0 where
   pub outcome : reported o ≡ outcomeOf x
   pub output : after ≡ exit (λ v. v) x before
+
+-- the same with a workspace, which was lent as w and is left as w′
+pub record OneOutputIn (x : Result (List Float)) (o : Outcome) (before after w w′ : List Float) : Type 0 where
+  pub outcome : reported o ≡ outcomeOf x
+  pub output : after ≡ exit (λ v. v) x before
+  pub workspace : w′ ≡ workspaceOf x w
+
+-- the two outputs of a derivative: the function's value, and the derivative
+pub record Both : Type 0 where
+  pub value : List Float
+  pub derivative : List Float
+
+-- a call with these two outputs and a workspace
+pub record TwoOutputsIn (x : Result Both) (o : Outcome) (first first′ second second′ w w′ : List Float) : Type 0 where
+  pub outcome : reported o ≡ outcomeOf x
+  pub value : first′ ≡ exit (λ (b : Both). b .value) x first
+  pub derivative : second′ ≡ exit (λ (b : Both). b .derivative) x second
+  pub workspace : w′ ≡ workspaceOf x w
+
+-- ---- the parts of such a call
+
+-- The matrix of order n in slot 0 is replaced by what the definition gives, x. o is the outcome. Only the slots ss change; after a refusal slot 0 holds anything.
+pub record Replaced (ss : List ℕ) (n : ℕ) (x : Result (List Float)) (o : Outcome) (w w′ : List Float) : Type 0 where
+  pub outcome : reported o ≡ outcomeOf x
+  pub result : slot n w′ 0 ≡ exit (λ v. v) x (slot n w′ 0)
+  pub only : Only (member ss) w w′
+
+-- v is written to an output where the outcome `given` is done, the workspace is cleared, and the answer has the same outcome
+pub record Delivered (given o : Outcome) (v before after w w′ : List Float) : Type 0 where
+  pub outcome : reported o ≡ reported given
+  pub output : after ≡ exit (λ _. v) (reported given) before
+  pub workspace : w′ ≡ cleared w

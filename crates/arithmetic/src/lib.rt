@@ -3,6 +3,7 @@ pub mod answer;
 pub mod float;
 pub mod matrix;
 pub mod norm;
+pub mod output;
 pub mod product;
 pub mod question;
 pub mod root;

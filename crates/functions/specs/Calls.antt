@@ -4,11 +4,12 @@ use mathlib.Core.List.{List, [], _∷_}
 use lib.Ieee.{Float, Format}
 use Rattle.arithmetic.specs.Result.{Result, done}
 use Rattle.arithmetic.specs.Questions.{unary, powered, binary, answer, ofExpm, ofLogm, ofSqrtm, ofPowm, ofCosm, ofSinm, ofFrechetExpm, ofFrechetLogm, ofFrechetSqrtm, ofCondExpm, ofKron, ofKronSum}
+use Rattle.arithmetic.specs.Outputs.{Both}
 use Rattle.functions.specs.Roots.{squareRoot}
 use Rattle.functions.specs.Logarithm.{logarithm}
 use Rattle.functions.specs.Powers.{expM, powerM}
 use Rattle.functions.specs.Trigonometric.{cosM, sinM}
-use Rattle.functions.specs.Derivatives.{Both, Condition, frechetExpM, frechetLogM, frechetSqrtM, condExpM}
+use Rattle.functions.specs.Derivatives.{Condition, frechetExpM, frechetLogM, frechetSqrtM, condExpM}
 use Rattle.functions.specs.Kronecker.{kronM, kronSumM}
 
 -- ---- functions of a matrix: rows, columns, the matrix, the lengths of output and workspace

@@ -11,17 +11,13 @@ use Rattle.arithmetic.specs.Matrix.{item, at, grid}
 use Rattle.arithmetic.specs.Product.{accumulateM, differenceQuotientM, diagonalM, transposeM}
 use Rattle.arithmetic.specs.Norm.{frobenius}
 use Rattle.arithmetic.specs.Result.{Result, refused, done, _>>=_}
+use Rattle.arithmetic.specs.Outputs.{Both}
 use Rattle.lu.specs.Lu.{luOutcome, luFactors, luPivots}
 use Rattle.lu.specs.Solve.{solved, whereFactored}
 use Rattle.functions.specs.Exponential.{block, quarter}
 use Rattle.functions.specs.Roots.{orNotConverged, squareRoot}
 use Rattle.functions.specs.Logarithm.{logarithm}
 use Rattle.functions.specs.Powers.{expM}
-
--- the two outputs: the function's value and its derivative
-pub record Both : Type 0 where
-  pub value : List Float
-  pub derivative : List Float
 
 -- ---- the exponential: the upper quarters of that of [A E; 0 A]
 

@@ -13,6 +13,8 @@ use crate::LuOutcome;
 use crate::question::ask_compute;
 use crate::question::ask_determinant;
 use crate::question::ask_solve;
+use crate::room::column_room;
+use crate::room::pivot_room;
 use crate::substitution::solve_columns;
 use crate::workspace::factor_in;
 use arithmetic::answer::Answer;
@@ -30,20 +32,6 @@ use arithmetic::workspace::copy_out;
 pub struct DeterminantAnswer {
     pub outcome: Outcome,
     pub value: f64,
-}
-
-// Room for the pivots of an order up to 64.
-fn pivot_room() -> [usize; 64]
-    ensures { λ r. ⌜ 64 ≡ length r ⌝ }
-{
-    [0usize; 64]
-}
-
-// Room for a column of an order up to 64.
-fn column_room() -> [f64; 64]
-    ensures { λ r. ⌜ 64 ≡ length r ⌝ }
-{
-    [0.0f64; 64]
 }
 
 // Copies src to dst, which is as long.

@@ -6,7 +6,8 @@ use lib.Dec.{eqb}
 use lib.Ieee.{Float, binary64, ofBits, toBits}
 use Rattle.arithmetic.specs.Result.{Result, refused, done}
 use Rattle.lu.specs.Calls.{Factorisation}
-use Rattle.functions.specs.Derivatives.{Both, Condition}
+use Rattle.arithmetic.specs.Outputs.{Both}
+use Rattle.functions.specs.Derivatives.{Condition}
 
 -- 0, the refusal's number and its two details; or 1, the halvings and the outputs
 abbrev pub shown : {A : Type 0} → (A → List ℕ) → Result A → List ℕ

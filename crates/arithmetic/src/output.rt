@@ -1,0 +1,29 @@
+// The end of a call: its outputs are written where it is done, and the workspace is cleared.
+ghost use Prim.Native.Nat.{_≤_};
+ghost use lib.ListN.{length};
+ghost use Rattle.arithmetic.specs.Matrix.{part};
+ghost use Rattle.arithmetic.specs.Outputs.{Delivered};
+use crate::answer::Answer;
+use crate::answer::Outcome;
+use crate::answer::done;
+use crate::answer::refused;
+use crate::workspace::clear;
+use crate::workspace::copy_out;
+
+// What stands from slot 0 on is written to out.
+pub fn deliver(outcome: Outcome, out: &mut [f64], w: &mut [f64]) -> Answer
+    requires { ⌜ (length (now out) ≤ 8192) × (8192 ≤ length (now w)) ⌝ }
+    ensures { λ r. ⌜ Delivered outcome (r .outcome) (part (now (w .entry)) 0 (length (now (out .entry)))) (now (out .entry)) (now (out .exit)) (now (w .entry)) (now (w .exit)) ⌝ }
+{
+    match outcome {
+        Outcome::Done { halvings } => {
+            copy_out(w, 0, out);
+            clear(w);
+            done(halvings)
+        }
+        Outcome::Refused(why) => {
+            clear(w);
+            refused(why)
+        }
+    }
+}
