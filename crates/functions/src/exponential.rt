@@ -75,5 +75,5 @@ pub fn exponential_at(w: &mut [f64], n: usize, s: usize, pivots: &mut [usize], c
     pade_sums(w, n);
     divide(w, 768, 512, n, n, pivots, c);
     copy(w, 2, 0, n);
-    square(w, 0, 4, n, s);
+    square(w, 0, 4, n, s as u64);
 }
