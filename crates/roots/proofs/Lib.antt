@@ -1,0 +1,5 @@
+-- Laws that the proofs of this crate cite.
+pub mod IterateLaws
+pub mod PassLaws
+pub mod NewtonLaws
+pub mod SquareRootLaws
