@@ -3,3 +3,5 @@ pub mod IterateLaws
 pub mod PassLaws
 pub mod NewtonLaws
 pub mod SquareRootLaws
+pub mod LogarithmLaws
+pub mod CallLaws

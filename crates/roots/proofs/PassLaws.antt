@@ -1,12 +1,13 @@
 -- Laws of a loop over passes in a workspace, for every state that is read from it, and of a system in slots. Assumes nothing.
 use Prim.Native.Nat.{ℕ, _+_, _*_, _≤_, _<_}
 use mathlib.Core.Path.{_≡_, refl, sym, ap, _∙_}
-use mathlib.Core.Bool.{Bool, true, false}
+use mathlib.Core.Bool.{Bool, true, false, true≢false}
 use mathlib.Core.List.{List}
-use mathlib.Core.Option.{Option, none, some}
+use mathlib.Core.Option.{some}
 use lib.Dec.{eqb}
 use lib.Ieee.{Float, Format}
 use Rattle.arithmetic.specs.Matrix.{part}
+use Rattle.arithmetic.specs.Result.{done, refused}
 use Rattle.arithmetic.specs.Workspace.{Room, slot, member, Only}
 use Rattle.arithmetic.proofs.Slots.{only-refl, only-trans}
 use Rattle.lu.specs.declared.LuOutcome.{LuOutcome}
@@ -14,8 +15,8 @@ use Rattle.lu.specs.declared.LuOutcome.the-variants.{Factored, Singular}
 use Rattle.lu.specs.Lu.{luOutcome}
 use Rattle.lu.specs.Solve.{divided, standIn, quotient, division, whereFactored}
 use Rattle.lu.proofs.DivisionLaws.{divided-slot, divided-only}
-use Rattle.functions.specs.Iterate.{Step, running, stopped, failed, after, verdict}
-use Rattle.roots.specs.Passes.{asStep, tested, OnePass, Passes, Quotient}
+use Rattle.functions.specs.Iterate.{Step, running, after, verdict, ended}
+use Rattle.roots.specs.Passes.{asStep, tested, answered, OnePass, Passes, Quotient}
 use Rattle.roots.specs.declared.pass.Pass.{Pass}
 use Rattle.roots.specs.declared.pass.Pass.the-variants.{Running, Stopped, Failed}
 use Rattle.roots.proofs.IterateLaws.{goes-on, stops, fails, runs-out}
@@ -24,6 +25,17 @@ use Rattle.roots.proofs.IterateLaws.{goes-on, stops, fails, runs-out}
 pub step-tested : {S : Type 0} (b : Bool) (x : S) → asStep (tested b) x ≡ verdict b x
 step-tested true x = refl
 step-tested false x = refl
+
+-- what an iteration that has a result ends with, and one that failed
+pub answers-ended : {S : Type 0} (p : Pass) (x : S) → answered p ≡ true → done 0 x ≡ ended (asStep p x)
+answers-ended Running x e = refl
+answers-ended Stopped x e = refl
+answers-ended Failed x e = absurd (true≢false (sym e))
+
+pub fails-ended : {S : Type 0} (p : Pass) (x : S) → answered p ≡ false → refused 13 0 0 ≡ ended (asStep p x)
+fails-ended Running x e = absurd (true≢false e)
+fails-ended Stopped x e = absurd (true≢false e)
+fails-ended Failed x e = refl
 
 -- ---- the loop
 

@@ -1,23 +1,20 @@
 -- Laws of a pass of Denman and Beavers' iteration in a workspace, and of the square root by its passes. Assumes nothing.
-use Prim.Native.Nat.{ℕ, _*_, _≤_}
+use Prim.Native.Nat.{ℕ}
 use native.Mathlib.Omega.{arith}
 use mathlib.Core.Path.{_≡_, refl, sym, ap, _∙_}
-use mathlib.Core.Bool.{Bool, true, false, cond}
+use mathlib.Core.Bool.{true, false}
 use mathlib.Core.List.{List, [], _∷_}
 use mathlib.Core.Option.{Option, none, some}
-use lib.Dec.{eqb}
 use lib.ListN.{set}
 use lib.Ieee.{Float, Format, lt}
-use borrow.Author.Tests.{eq-eqb, ne-eqb}
+use borrow.Author.Tests.{ne-eqb}
 use Rattle.arithmetic.specs.Root.{sqrtOf}
 use Rattle.arithmetic.specs.Matrix.{item, part, put, tab}
 use Rattle.arithmetic.specs.Product.{meanM, identityM}
 use Rattle.arithmetic.specs.Norm.{difference}
 use Rattle.arithmetic.specs.Workspace.{Room, slot, store, member, Only}
 use Rattle.arithmetic.specs.Result.{Result, done, refused, _>>=_, outcome, exit}
-use Rattle.arithmetic.specs.Answers.{reported}
 use Rattle.arithmetic.specs.Outputs.{Replaced}
-use Rattle.arithmetic.specs.declared.answer.Outcome.{Outcome}
 use Rattle.arithmetic.specs.declared.answer.Outcome.the-variants.{Done, Refused}
 use Rattle.arithmetic.specs.declared.answer.Refusal.the-variants.{NotConverged}
 use Rattle.arithmetic.proofs.Slots.{only-trans, only-more, only-store, slot-store}
@@ -25,12 +22,12 @@ use Rattle.arithmetic.proofs.States.{start, step-mean, step-copy, step-call, st
 use Rattle.lu.specs.declared.LuOutcome.{LuOutcome}
 use Rattle.lu.specs.declared.LuOutcome.the-variants.{Factored, Singular}
 use Rattle.lu.specs.Solve.{division, inverse, whereFactored}
-use Rattle.functions.specs.Iterate.{Step, running, stopped, failed, after, verdict, ended}
+use Rattle.functions.specs.Iterate.{after, verdict, ended}
 use Rattle.functions.specs.Roots.{rootTolerance, Pair, denmanBeaversNext, denmanBeaversStep, denmanBeavers, squareRoot}
-use Rattle.roots.specs.Passes.{asStep, tested, OnePass, Passes, Quotient, pairIn, Means, SecondInverse}
+use Rattle.roots.specs.Passes.{asStep, tested, answered, OnePass, Passes, Quotient, pairIn, Means, SecondInverse}
 use Rattle.roots.specs.declared.pass.Pass.{Pass}
-use Rattle.roots.specs.declared.pass.Pass.the-variants.{Running, Stopped, Failed}
-use Rattle.roots.proofs.PassLaws.{step-tested}
+use Rattle.roots.specs.declared.pass.Pass.the-variants.{Failed}
+use Rattle.roots.proofs.PassLaws.{step-tested, answers-ended, fails-ended}
 
 -- the slots that a pass changes, and those that it changes once z is inverted
 abbrev pub used : List ℕ
@@ -131,19 +128,19 @@ module _ (f : Format) (n : ℕ) (w₀ : List Float) (r : Room n w₀) where
     changed : Only (member used) w₀ w2
     changed = only-trans (step-identity n (r .order) 1 (start (member used) n r) e1 refl refl .only) (P .only)
 
-    -- what the passes end with, q, is the definition's
-    ended-as : (q : Pass) → p ≡ q → (ended (asStep q (pairIn n w2)) >>= λ v. done 0 (v .y)) ≡ squareRoot f n (slot n w₀ 0)
+    -- what the passes end with is the definition's
+    ended-as : (q : Result Pair) → q ≡ ended (asStep p (pairIn n w2)) → (q >>= λ v. done 0 (v .y)) ≡ squareRoot f n (slot n w₀ 0)
     unfolding squareRoot
-    ended-as q e = rw (ne-eqb n 1 two) (ap (λ (z : Step Pair). ended z >>= λ v. done 0 (v .y)) (ap (λ (z : Pass). asStep z (pairIn n w2)) (sym e) ∙ passes))
+    ended-as q e = rw (ne-eqb n 1 two) (ap (λ (z : Result Pair). z >>= λ v. done 0 (v .y)) (e ∙ ap ended passes))
 
-    pub root-answers : (q : Pass) → p ≡ q → ended (asStep q (pairIn n w2)) ≡ done 0 (pairIn n w2) → Replaced used n (squareRoot f n (slot n w₀ 0)) (Done 0) w₀ w2
+    pub root-answers : answered p ≡ true → Replaced used n (squareRoot f n (slot n w₀ 0)) (Done 0) w₀ w2
     unfolding outcome exit _>>=_
-    root-answers q e a =
-        let x : done 0 (slot n w2 0) ≡ squareRoot f n (slot n w₀ 0) = ap (λ (z : Result Pair). z >>= λ v. done 0 (v .y)) (sym a) ∙ ended-as q e in
+    root-answers e =
+        let x : done 0 (slot n w2 0) ≡ squareRoot f n (slot n w₀ 0) = ended-as (done 0 (pairIn n w2)) (answers-ended p (pairIn n w2) e) in
         record { outcome = ap outcome x; result = ap (λ (z : Result (List Float)). exit (λ v. v) z (slot n w2 0)) x; only = changed }
 
-    pub root-refused : p ≡ Failed → Replaced used n (squareRoot f n (slot n w₀ 0)) (Refused NotConverged) w₀ w2
+    pub root-refused : answered p ≡ false → Replaced used n (squareRoot f n (slot n w₀ 0)) (Refused NotConverged) w₀ w2
     unfolding outcome exit _>>=_
     root-refused e =
-        let x : refused 13 0 0 ≡ squareRoot f n (slot n w₀ 0) = ended-as Failed e in
+        let x : refused 13 0 0 ≡ squareRoot f n (slot n w₀ 0) = ended-as (refused 13 0 0) (fails-ended p (pairIn n w2) e) in
         record { outcome = ap outcome x; result = ap (λ (z : Result (List Float)). exit (λ v. v) z (slot n w2 0)) x; only = changed }

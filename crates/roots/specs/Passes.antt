@@ -24,6 +24,12 @@ abbrev pub tested : Bool → Pass
 tested true = Stopped
 tested false = Running
 
+-- running out of passes still answers
+abbrev pub answered : Pass → Bool
+answered Running = true
+answered Stopped = true
+answered Failed = false
+
 -- One pass in the slots ss: the state that `read` finds in the workspace goes through the step g. r is what the pass answers.
 pub record OnePass {S : Type 0} (g : S → Step S) (read : List Float → S) (ss : List ℕ) (r : Pass) (w w′ : List Float) : Type 0 where
   pub step : asStep r (read w′) ≡ g (read w)

@@ -2,7 +2,7 @@
 ghost use mathlib.Core.Path.{_≡_};
 ghost use lib.Ieee.{binary64, lt};
 ghost use Rattle.functions.specs.Roots.{rootTolerance};
-ghost use Rattle.roots.specs.Passes.{tested};
+ghost use Rattle.roots.specs.Passes.{tested, answered};
 
 // What a pass makes of its iteration.
 pub enum Pass {
@@ -19,5 +19,16 @@ pub fn root_verdict(change: f64) -> Pass
         Pass::Stopped
     } else {
         Pass::Running
+    }
+}
+
+// Whether an iteration has a result: running out of passes still answers.
+pub fn answers(pass: Pass) -> bool
+    ensures { λ r. ⌜ r ≡ answered pass ⌝ }
+{
+    match pass {
+        Pass::Running => true,
+        Pass::Stopped => true,
+        Pass::Failed => false,
     }
 }

@@ -2,8 +2,8 @@
 use lib.Ieee.{binary64}
 use Rattle.roots.proofs.SquareRootLaws.{means-steps}
 use borrow.Author.Needs.{needs}
-use Rattle.roots.proofs.sqrtm.means.Statement.{statement}
-use Rattle.roots.proofs.sqrtm.means.Tie as tie
+use Rattle.roots.proofs.square_root.means.Statement.{statement}
+use Rattle.roots.proofs.square_root.means.Tie as tie
 
 mean-requires : tie.Need-mean-requires
 mean-requires c κs = search needs

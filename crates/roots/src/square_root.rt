@@ -10,6 +10,7 @@ ghost use Rattle.functions.specs.Roots.{denmanBeaversStep, squareRoot};
 ghost use Rattle.roots.specs.Passes.{OnePass, Passes, pairIn, Means, SecondInverse};
 use crate::division::divide_slot;
 use crate::pass::Pass;
+use crate::pass::answers;
 use crate::pass::root_verdict;
 use arithmetic::answer::Outcome;
 use arithmetic::answer::Refusal;
@@ -87,9 +88,9 @@ pub fn sqrtm_in(w: &mut [f64], n: usize) -> Outcome
         return Outcome::Done { halvings: 0 };
     }
     identity(w, 1, n);
-    match root_passes(w, n) {
-        Pass::Running => Outcome::Done { halvings: 0 },
-        Pass::Stopped => Outcome::Done { halvings: 0 },
-        Pass::Failed => Outcome::Refused(Refusal::NotConverged),
+    if answers(root_passes(w, n)) {
+        Outcome::Done { halvings: 0 }
+    } else {
+        Outcome::Refused(Refusal::NotConverged)
     }
 }

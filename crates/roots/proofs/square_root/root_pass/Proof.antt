@@ -2,8 +2,8 @@
 use lib.Ieee.{binary64}
 use Rattle.roots.proofs.SquareRootLaws.{root-passed, root-failed}
 use borrow.Author.Needs.{needs}
-use Rattle.roots.proofs.sqrtm.root_pass.Statement.{statement}
-use Rattle.roots.proofs.sqrtm.root_pass.Tie as tie
+use Rattle.roots.proofs.square_root.root_pass.Statement.{statement}
+use Rattle.roots.proofs.square_root.root_pass.Tie as tie
 
 copy-requires : tie.Need-copy-requires
 copy-requires c κs = search needs

@@ -10,8 +10,8 @@ use Rattle.roots.specs.Passes.{pairIn}
 use Rattle.roots.proofs.SquareRootLaws.{used}
 use native.Mathlib.Omega.{arith}
 use borrow.Author.Needs.{needs}
-use Rattle.roots.proofs.sqrtm.root_passes.Statement.{statement}
-use Rattle.roots.proofs.sqrtm.root_passes.Tie as tie
+use Rattle.roots.proofs.square_root.root_passes.Statement.{statement}
+use Rattle.roots.proofs.square_root.root_passes.Tie as tie
 
 abbrev Inv-loop : tie.InvT-loop
 Inv-loop w₀ n i₀ w i = (i ≤ 100) × (length w ≡ length w₀) × Passing (λ _. denmanBeaversStep binary64 n) (pairIn n) used w₀ w i × Room n w₀

@@ -2,8 +2,8 @@
 use lib.Ieee.{binary64}
 use Rattle.roots.proofs.SquareRootLaws.{second-passed, second-failed}
 use borrow.Author.Needs.{needs}
-use Rattle.roots.proofs.sqrtm.second_inverse.Statement.{statement}
-use Rattle.roots.proofs.sqrtm.second_inverse.Tie as tie
+use Rattle.roots.proofs.square_root.second_inverse.Statement.{statement}
+use Rattle.roots.proofs.square_root.second_inverse.Tie as tie
 
 copy-requires : tie.Need-copy-requires
 copy-requires c κs = search needs
