@@ -7,7 +7,7 @@ use lib.Dec.{eqb}
 use lib.Ieee.{Float, Format}
 use Rattle.arithmetic.specs.Root.{sqrtOf}
 use Rattle.arithmetic.specs.Matrix.{item}
-use Rattle.arithmetic.specs.Result.{Result, done, refused, _>>=_}
+use Rattle.arithmetic.specs.Result.{done, _>>=_}
 use Rattle.arithmetic.proofs.OutputLaws.{Late, late-bind}
 use Rattle.functions.specs.Iterate.{Step, running, stopped, failed, ended}
 use Rattle.functions.specs.Roots.{denmanBeavers, squareRoot}
