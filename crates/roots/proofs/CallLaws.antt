@@ -7,11 +7,13 @@ use lib.Dec.{eqb}
 use lib.Ieee.{Float, Format}
 use Rattle.arithmetic.specs.Root.{sqrtOf}
 use Rattle.arithmetic.specs.Matrix.{item}
+use Rattle.arithmetic.specs.Product.{accumulateM}
 use Rattle.arithmetic.specs.Result.{done, _>>=_}
 use Rattle.arithmetic.proofs.OutputLaws.{Late, late-bind}
 use Rattle.functions.specs.Iterate.{Step, running, stopped, failed, ended}
 use Rattle.functions.specs.Roots.{denmanBeavers, squareRoot}
 use Rattle.functions.specs.Logarithm.{rooting, series, logarithm}
+use Rattle.functions.specs.Derivatives.{logStep, frechetLogM}
 
 pub late-ended : {S : Type 0} (q : Step S) → Late (ended q)
 late-ended (running x) = tt
@@ -30,3 +32,8 @@ pub late-logarithm : (f : Format) (n : ℕ) (a : List Float) → Late (logarithm
 unfolding logarithm
 late-logarithm f n a =
     late-bind (ended (rooting f n a 100)) _ (late-ended (rooting f n a 100)) (λ r. late-bind (ended (series f n _ 59)) _ (late-ended (series f n _ 59)) (λ s. tt))
+
+pub late-frechet-logarithm : (f : Format) (n : ℕ) (a e : List Float) → Late (frechetLogM f n a e)
+unfolding frechetLogM
+late-frechet-logarithm f n a e =
+    late-bind (logarithm f n a) _ (late-logarithm f n a) (λ l. late-bind (logarithm f n (accumulateM f n (logStep f) e a)) _ (late-logarithm f n (accumulateM f n (logStep f) e a)) (λ m. tt))

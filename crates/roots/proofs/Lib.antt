@@ -5,3 +5,4 @@ pub mod NewtonLaws
 pub mod SquareRootLaws
 pub mod LogarithmLaws
 pub mod CallLaws
+pub mod LogDerivativeLaws

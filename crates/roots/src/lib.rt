@@ -1,10 +1,13 @@
 // The square root and the logarithm of a matrix, and their derivatives.
 mod calls;
 pub mod division;
+pub mod log_derivative;
 pub mod logarithm;
 pub mod newton;
 pub mod pass;
 pub mod square_root;
+pub mod sylvester;
 
+pub use calls::frechet_logm;
 pub use calls::logm;
 pub use calls::sqrtm;
