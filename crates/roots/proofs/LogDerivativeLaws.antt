@@ -5,43 +5,23 @@ use mathlib.Core.List.{List, [], _∷_}
 use lib.Ieee.{Float, Format}
 use Rattle.arithmetic.specs.Product.{accumulateM, differenceQuotientM}
 use Rattle.arithmetic.specs.Workspace.{Room, slot, store, member, Only}
-use Rattle.arithmetic.specs.Result.{Result, refused, done, _>>=_, outcome, exit}
-use Rattle.arithmetic.specs.Answers.{reported}
-use Rattle.arithmetic.specs.Outputs.{Both, Replaced, ReplacedBoth}
+use Rattle.arithmetic.specs.Result.{done, _>>=_, outcome, exit}
+use Rattle.arithmetic.specs.Outputs.{Replaced, ReplacedBoth}
 use Rattle.arithmetic.specs.declared.answer.Outcome.{Outcome}
 use Rattle.arithmetic.specs.declared.answer.Outcome.the-variants.{Done, Refused}
 use Rattle.arithmetic.specs.declared.answer.Refusal.{Refusal}
-use Rattle.arithmetic.proofs.BothLaws.{call-done, call-refused}
+use Rattle.arithmetic.proofs.BothLaws.{call-done}
 use Rattle.arithmetic.proofs.Slots.{only-trans, only-more}
 use Rattle.arithmetic.proofs.States.{start, step-copy, step-accumulate, step-difference-quotient, step-call, held-at, member-among}
 use Rattle.functions.specs.Logarithm.{logarithm}
 use Rattle.functions.specs.Derivatives.{logStep, frechetLogM}
 use Rattle.roots.specs.Frechet.{shiftedLogarithm, QuotientPlaced}
+use Rattle.roots.proofs.TwoCalls.{both-refused, both-follows}
 use Rattle.roots.proofs.LogarithmLaws.{used}
 
 -- the slots that change
 abbrev pub moved : List ℕ
 moved = 0 ∷ 1 ∷ 2 ∷ 3 ∷ 5 ∷ 6 ∷ []
-
--- Where the first of two calls refuses, with y, both outputs stay as they are.
-pub both-refused : {A : Type 0} (x : Result A) (g : A → Result Both) (ss : List ℕ) (n : ℕ) (o : Outcome) (y : Refusal) (w w′ : List Float)
-    → reported o ≡ outcome x → o ≡ Refused y → Only (member ss) w w′ → ReplacedBoth ss n (x >>= g) (Refused y) w w′
-unfolding _>>=_ outcome exit
-both-refused {A} x g ss n o y w w′ h e only =
-    let (k, i, j, ex, en) = call-refused x o y h e in
-    let b : (x >>= g) ≡ refused k i j = ap (λ (z : Result A). z >>= g) ex in
-    record {
-      outcome = en ∙ ap outcome (sym b);
-      value = ap (λ (z : Result Both). exit (λ (q : Both). q .value) z (slot n w′ 0)) (sym b);
-      derivative = ap (λ (z : Result Both). exit (λ (q : Both). q .derivative) z (slot n w′ 1)) (sym b);
-      only = only;
-    }
-
--- Where it is done, what follows decides.
-pub both-follows : {A : Type 0} (x : Result A) (g : A → Result Both) (v : A) (s n : ℕ) (ss : List ℕ) (o : Outcome) (w w1 w′ : List Float)
-    → x ≡ done s v → Only (member ss) w w1 → ReplacedBoth ss n (g v) o w1 w′ → ReplacedBoth ss n (x >>= g) o w w′
-unfolding _>>=_
-both-follows x g v s n ss o w w1 w′ e only R = rw e (record { outcome = R .outcome; value = R .value; derivative = R .derivative; only = only-trans only (R .only) })
 
 module _ (f : Format) (n : ℕ) (w₀ : List Float) (r : Room n w₀) where
   pub quotient-placed : (w1 w2 w3 : List Float) (h : Float) → h ≡ logStep f → w1 ≡ store w₀ 0 (differenceQuotientM f n h (slot n w₀ 0) (slot n w₀ 6)) → w2 ≡ store w1 1 (slot n w1 0)

@@ -5,9 +5,11 @@ pub mod log_derivative;
 pub mod logarithm;
 pub mod newton;
 pub mod pass;
+pub mod root_derivative;
 pub mod square_root;
 pub mod sylvester;
 
 pub use calls::frechet_logm;
+pub use calls::frechet_sqrtm;
 pub use calls::logm;
 pub use calls::sqrtm;

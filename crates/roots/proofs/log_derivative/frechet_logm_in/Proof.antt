@@ -1,7 +1,6 @@
 -- `frechet_logm_in` meets its contract: a law for each outcome of the first logarithm. Assumes nothing.
 use lib.Ieee.{binary64}
 use Rattle.roots.proofs.LogDerivativeLaws.{frechet-follows, frechet-refused}
-use native.Mathlib.Omega.{arith}
 use borrow.Author.Needs.{needs}
 use Rattle.roots.proofs.log_derivative.frechet_logm_in.Statement.{statement}
 use Rattle.roots.proofs.log_derivative.frechet_logm_in.Tie as tie

@@ -1,7 +1,6 @@
 -- `second_logarithm` meets its contract: a law for each outcome of the logarithm. Assumes nothing.
 use lib.Ieee.{binary64}
 use Rattle.roots.proofs.LogDerivativeLaws.{second-done, second-refused}
-use native.Mathlib.Omega.{arith}
 use borrow.Author.Needs.{needs}
 use Rattle.roots.proofs.log_derivative.second_logarithm.Statement.{statement}
 use Rattle.roots.proofs.log_derivative.second_logarithm.Tie as tie
