@@ -20,6 +20,7 @@ use Rattle.arithmetic.specs.declared.answer.Question.the-variants.{Passed, No}
 use Rattle.arithmetic.proofs.Least.{halvings-le}
 use Rattle.arithmetic.proofs.Slots.{only-refl}
 use Rattle.arithmetic.proofs.QuestionLaws.{as-refused}
+use Rattle.arithmetic.proofs.OutputLaws.{Late, late-bind}
 use Rattle.functions.specs.Powers.{halvingsFor}
 use Rattle.powers.specs.Series.{Halving}
 
@@ -61,6 +62,15 @@ halving-done x held h = record {
 -- of an equal norm
 pub halving-of : {x y : Float} {o : Outcome} → Halving x o → x ≡ y → Halving y o
 halving-of H e = rw e at H
+
+-- its refusal is 12
+pub halvings-late : {B : Type 0} (x : Float) (g : ℕ → Result B) → ((s : ℕ) → Late (g s)) → Late (halvingsFor x >>= g)
+unfolding halvingsFor
+halvings-late x g l = late-bind (halvingsFor x) g (go (finite x)) l
+  where
+    go : (b : Bool) → Late (cond b (done 0 (halvings x)) (refused 12 0 0))
+    go true = tt
+    go false = omega arith
 
 -- ---- a matrix in slot 0 is replaced by what g gives at the halvings of the norm x
 

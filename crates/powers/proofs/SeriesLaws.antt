@@ -6,17 +6,21 @@ use Prim.Native.Nat.{ℕ, _+_}
 use native.Mathlib.Numerals.{add-one}
 use native.Mathlib.Omega.{arith}
 use lib.Count.{trailingZeros}
-use lib.Ieee.{Float, Format, binary64, ofBits, ofFields, odd}
-use Rattle.arithmetic.specs.Float.{powerOfTwo, inversePowerOfTwo}
+use lib.Ieee.{Float, Format, binary64, add, ofBits, ofFields, odd}
+use Rattle.arithmetic.specs.Float.{one, powerOfTwo, inversePowerOfTwo}
 use Rattle.arithmetic.specs.Product.{mulM, timesM, scaleM, identityM, minusIdentityM, deductM, accumulateM, addMultipleM}
 use Rattle.arithmetic.specs.Workspace.{Room, slot, store, member, Only}
+use Rattle.arithmetic.specs.Norm.{norm1}
+use Rattle.arithmetic.specs.Result.{done}
 use Rattle.arithmetic.proofs.MatrixLaws.{square-le}
 use Rattle.arithmetic.proofs.ProductLaws.{accumulateM-comm}
 use Rattle.arithmetic.proofs.Slots.{picks, only-refl, only-trans, only-more, slot-only}
 use Rattle.arithmetic.proofs.States.{start, held-at, step-mult, step-identity, step-deduct, step-accumulate, step-times, step-minus-identity, step-scale, step-copy, step-call, member-among}
+use Rattle.arithmetic.proofs.OutputLaws.{Late}
 use Rattle.functions.specs.Exponential.{scaled}
-use Rattle.functions.specs.Trigonometric.{oneOver, cosineTo6, cosineTo8, cosineBeside, sineTo7, cosineDoubled, sineDoubled, cosineAt, sineAt}
+use Rattle.functions.specs.Trigonometric.{oneOver, cosineTo6, cosineTo8, cosineBeside, sineTo7, cosineDoubled, sineDoubled, cosineAt, sineAt, trigonometricHalvings, cosM, sinM}
 use Rattle.powers.specs.Series.{EvenPowers, Sixth, Beside, Eighth, OddPowers, Seventh, BothSeries, CosineDoubled, SineDoubled, CosineAfter, BothAfter, CosineRun, SineRun}
+use Rattle.powers.proofs.HalvingLaws.{halvings-late}
 
 -- the constant 2.0 of the code
 pub two-bits : ofBits binary64 0x4000_0000_0000_0000 ≡ powerOfTwo 1
@@ -201,3 +205,13 @@ module _ (f : Format) (n : ℕ) (w₀ : List Float) (r : Room n w₀) where
         result = D .sine ∙ (λ i. sineDoubled f n ((B .sine ∙ ap (sineTo7 f n) (held-at 0 n s1 refl)) i) ((B .cosine ∙ ap (cosineBeside f n) (held-at 0 n s1 refl)) i) s);
         only = only-trans (s1 .only) (only-trans (B .only) (only-more (member-among all (0 ∷ 1 ∷ 4 ∷ []) refl) (D .only)));
       }
+
+-- ---- a refusal is that of the norm
+
+pub cosine-late : (f : Format) (n : ℕ) (a : List Float) → Late (cosM f n a)
+unfolding cosM trigonometricHalvings
+cosine-late f n a = halvings-late (add f (norm1 f n a) one) (λ s. done s (cosineAt f n s a)) (λ s. tt)
+
+pub sine-late : (f : Format) (n : ℕ) (a : List Float) → Late (sinM f n a)
+unfolding sinM trigonometricHalvings
+sine-late f n a = halvings-late (add f (norm1 f n a) one) (λ s. done s (sineAt f n s a)) (λ s. tt)

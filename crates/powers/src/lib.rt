@@ -1,4 +1,8 @@
 // Cosine, sine and powers of a matrix.
+mod calls;
 pub mod cosine;
 pub mod halvings;
 pub mod sine;
+
+pub use calls::cosm;
+pub use calls::sinm;
