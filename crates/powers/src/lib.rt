@@ -3,6 +3,7 @@ mod calls;
 pub mod cosine;
 pub mod halvings;
 pub mod sine;
+pub mod whole;
 
 pub use calls::cosm;
 pub use calls::sinm;
