@@ -2,7 +2,7 @@
 use mathlib.Core.Path.{_≡_, refl, sym, ap, _∙_}
 use mathlib.Core.List.{List, [], _∷_}
 use mathlib.Core.Bool.{true, not}
-use Prim.Native.Nat.{ℕ, _+_}
+use Prim.Native.Nat.{ℕ, _+_, _<_}
 use native.Mathlib.Numerals.{add-one}
 use native.Mathlib.Omega.{arith}
 use lib.Count.{trailingZeros}
@@ -13,13 +13,13 @@ use Rattle.arithmetic.specs.Workspace.{Room, slot, store, member, Only}
 use Rattle.arithmetic.specs.Norm.{norm1}
 use Rattle.arithmetic.specs.Result.{done}
 use Rattle.arithmetic.proofs.MatrixLaws.{square-le}
-use Rattle.arithmetic.proofs.ProductLaws.{accumulateM-comm}
-use Rattle.arithmetic.proofs.Slots.{picks, only-refl, only-trans, only-more, slot-only}
-use Rattle.arithmetic.proofs.States.{start, held-at, step-mult, step-identity, step-deduct, step-accumulate, step-times, step-minus-identity, step-scale, step-copy, step-call, member-among}
+use Rattle.arithmetic.proofs.ProductLaws.{accumulateM-comm, length-mulM, length-timesM}
+use Rattle.arithmetic.proofs.Slots.{picks, slot-store, room-kept, room-within, member-here, member-next, only-refl, only-trans, only-more, only-store, slot-only}
+use Rattle.arithmetic.proofs.States.{start, held-at, step-mult, step-identity, step-deduct, step-accumulate, step-minus-identity, step-scale, step-copy, step-call, member-among}
 use Rattle.arithmetic.proofs.OutputLaws.{Late}
 use Rattle.functions.specs.Exponential.{scaled}
 use Rattle.functions.specs.Trigonometric.{oneOver, cosineTo6, cosineTo8, cosineBeside, sineTo7, cosineDoubled, sineDoubled, cosineAt, sineAt, trigonometricHalvings, cosM, sinM}
-use Rattle.powers.specs.Series.{EvenPowers, Sixth, Beside, Eighth, OddPowers, Seventh, BothSeries, CosineDoubled, SineDoubled, CosineAfter, BothAfter, CosineRun, SineRun}
+use Rattle.powers.specs.Series.{EvenPowers, Sixth, Beside, Eighth, OddPowers, Seventh, BothSeries, Doubled, CosineDoubled, BothDoubled, CosineAfter, BothAfter, CosineRun, SineRun}
 use Rattle.powers.proofs.HalvingLaws.{halvings-late}
 
 -- the constant 2.0 of the code
@@ -139,19 +139,35 @@ module _ (f : Format) (n : ℕ) (w₀ : List Float) (r : Room n w₀) where
 
   -- ---- doubling
 
-  pub double-cosine-steps : (w1 w2 w3 : List Float) (two : Float) → two ≡ powerOfTwo 1
-      → w1 ≡ store w₀ 1 (mulM f n (slot n w₀ 4) (slot n w₀ 4)) → w2 ≡ store w1 4 (timesM f n two (slot n w1 1)) → w3 ≡ store w2 4 (minusIdentityM f n (slot n w2 4)) → CosineDoubled f n w₀ w3
-  double-cosine-steps w1 w2 w3 two e e1 e2 e3 =
-      let s1 = step-mult n (r .order) f 4 4 1 (start (member (1 ∷ 4 ∷ [])) n r) e1 refl refl refl refl in
-      let s2 = step-times n (r .order) f two 1 4 s1 e2 refl refl refl in
-      let s3 = step-minus-identity n (r .order) f 4 s2 e3 refl refl refl in
-      record { cosine = held-at 4 n s3 refl ∙ ap (λ (b : Float). minusIdentityM f n (timesM f n b (mulM f n (slot n w₀ 4) (slot n w₀ 4)))) e; only = s3 .only }
+  pub double-steps : (c : ℕ) (w1 w2 : List Float) (two : Float) → c < 32 → two ≡ powerOfTwo 1 → w1 ≡ store w₀ 1 (mulM f n (slot n w₀ c) (slot n w₀ 4)) → w2 ≡ store w1 c (timesM f n two (slot n w1 1)) → Doubled f n c w₀ w2
+  double-steps c w1 w2 two small e e1 e2 =
+      let M = mulM f n (slot n w₀ c) (slot n w₀ 4) in
+      let D = timesM f n two (slot n w1 1) in
+      let few = square-le n (r .order) in
+      let o1 : Only (member (c ∷ 1 ∷ [])) w₀ w1 = rw e1 (only-store (member (c ∷ 1 ∷ [])) w₀ 1 M (member-next c (1 ∷ []) 1 refl) (omega (arith, few, length-mulM f n (slot n w₀ c) (slot n w₀ 4)))) in
+      let o2 : Only (member (c ∷ 1 ∷ [])) w1 w2 = rw e2 (only-store (member (c ∷ 1 ∷ [])) w1 c D (member-here c (1 ∷ [])) (omega (arith, few, length-timesM f n two (slot n w1 1)))) in
+      let m1 : slot n w1 1 ≡ M = ap (λ (w : List Float). slot n w 1) e1 ∙ slot-store n w₀ 1 M (length-mulM f n (slot n w₀ c) (slot n w₀ 4)) (room-within 1 r (omega arith)) in
+      let m2 : slot n w2 c ≡ D = ap (λ (w : List Float). slot n w c) e2 ∙ slot-store n w1 c D (length-timesM f n two (slot n w1 1)) (room-within {w = w1} c (room-kept r (o1 .long)) small) in
+      record { product = m2 ∙ (λ i. timesM f n (e i) (m1 i)); only = only-trans o1 o2 }
 
-  pub double-sine-steps : (w1 w2 : List Float) (two : Float) → two ≡ powerOfTwo 1 → w1 ≡ store w₀ 1 (mulM f n (slot n w₀ 0) (slot n w₀ 4)) → w2 ≡ store w1 0 (timesM f n two (slot n w1 1)) → SineDoubled f n w₀ w2
-  double-sine-steps w1 w2 two e e1 e2 =
-      let s1 = step-mult n (r .order) f 0 4 1 (start (member (0 ∷ 1 ∷ [])) n r) e1 refl refl refl refl in
-      let s2 = step-times n (r .order) f two 1 0 s1 e2 refl refl refl in
-      record { sine = held-at 0 n s2 refl ∙ ap (λ (b : Float). timesM f n b (mulM f n (slot n w₀ 0) (slot n w₀ 4))) e; only = s2 .only }
+  pub double-cosine-steps : (w1 w2 : List Float) → Doubled f n 4 w₀ w1 → w2 ≡ store w1 4 (minusIdentityM f n (slot n w1 4)) → CosineDoubled f n w₀ w2
+  double-cosine-steps w1 w2 D e2 =
+      let all = member (1 ∷ 4 ∷ []) in
+      let s2 = step-minus-identity n (r .order) f 4 (start all n (room-kept r (D .only .long))) e2 refl refl refl in
+      record { cosine = held-at 4 n s2 refl ∙ ap (minusIdentityM f n) (D .product); only = only-trans (only-more (member-among all (4 ∷ 1 ∷ []) refl) (D .only)) (s2 .only) }
+
+  pub double-angle-steps : (w1 w2 w3 : List Float) → Doubled f n 0 w₀ w1 → Doubled f n 4 w1 w2 → w3 ≡ store w2 4 (minusIdentityM f n (slot n w2 4)) → BothDoubled f n w₀ w3
+  double-angle-steps w1 w2 w3 S C e3 =
+      let all = member (0 ∷ 1 ∷ 4 ∷ []) in
+      let r1 : Room n w1 = room-kept r (S .only .long) in
+      let r2 : Room n w2 = room-kept r1 (C .only .long) in
+      let s3 = step-minus-identity n (r .order) f 4 (start all n r2) e3 refl refl refl in
+      let c1 : slot n w1 4 ≡ slot n w₀ 4 = slot-kept n (0 ∷ 1 ∷ []) r (S .only) 4 refl in
+      record {
+        sine = held-at 0 n s3 refl ∙ slot-kept n (4 ∷ 1 ∷ []) r1 (C .only) 0 refl ∙ S .product;
+        cosine = held-at 4 n s3 refl ∙ ap (minusIdentityM f n) (C .product ∙ (λ i. timesM f n (powerOfTwo 1) (mulM f n (c1 i) (c1 i))));
+        only = only-trans (only-more (member-among all (0 ∷ 1 ∷ []) refl) (S .only)) (only-trans (only-more (member-among all (4 ∷ 1 ∷ []) refl) (C .only)) (s3 .only));
+      }
 
   pub cosine-none : CosineAfter f n w₀ 0 w₀
   unfolding cosineDoubled
@@ -168,18 +184,13 @@ module _ (f : Format) (n : ℕ) (w₀ : List Float) (r : Room n w₀) where
   unfolding cosineDoubled sineDoubled
   both-none = record { sine = refl; cosine = refl; only = only-refl (member (0 ∷ 1 ∷ 4 ∷ [])) w₀ }
 
-  pub both-more : (i : ℕ) (w w1 w2 : List Float) → BothAfter f n w₀ i w → SineDoubled f n w w1 → CosineDoubled f n w1 w2 → BothAfter f n w₀ (i + 1) w2
+  pub both-more : (i : ℕ) (w w1 : List Float) → BothAfter f n w₀ i w → BothDoubled f n w w1 → BothAfter f n w₀ (i + 1) w1
   unfolding cosineDoubled sineDoubled
-  both-more i w w1 w2 A S C =
-      let all = member (0 ∷ 1 ∷ 4 ∷ []) in
-      let r0 : Room n w = record { order = r .order; space = rw (A .only .long) (r .space) } in
-      let r1 : Room n w1 = record { order = r .order; space = rw (S .only .long) (r0 .space) } in
-      let c1 : slot n w1 4 ≡ cosineDoubled f n (slot n w₀ 4) i = slot-kept n (0 ∷ 1 ∷ []) r0 (S .only) 4 refl ∙ A .cosine in
-      record {
-        sine = slot-kept n (1 ∷ 4 ∷ []) r1 (C .only) 0 refl ∙ S .sine ∙ (λ j. timesM f n (powerOfTwo 1) (mulM f n (A .sine j) (A .cosine j))) ∙ ap (sineDoubled f n (slot n w₀ 0) (slot n w₀ 4)) (sym (add-one i));
-        cosine = C .cosine ∙ ap (λ (c : List Float). minusIdentityM f n (timesM f n (powerOfTwo 1) (mulM f n c c))) c1 ∙ ap (cosineDoubled f n (slot n w₀ 4)) (sym (add-one i));
-        only = only-trans (A .only) (only-trans (only-more (member-among all (0 ∷ 1 ∷ []) refl) (S .only)) (only-more (member-among all (1 ∷ 4 ∷ []) refl) (C .only)));
-      }
+  both-more i w w1 A D = record {
+    sine = D .sine ∙ (λ j. timesM f n (powerOfTwo 1) (mulM f n (A .sine j) (A .cosine j))) ∙ ap (sineDoubled f n (slot n w₀ 0) (slot n w₀ 4)) (sym (add-one i));
+    cosine = D .cosine ∙ ap (λ (c : List Float). minusIdentityM f n (timesM f n (powerOfTwo 1) (mulM f n c c))) (A .cosine) ∙ ap (cosineDoubled f n (slot n w₀ 4)) (sym (add-one i));
+    only = only-trans (A .only) (D .only);
+  }
 
   -- ---- all the steps
 

@@ -75,13 +75,20 @@ pub record BothSeries (f : Format) (n : ℕ) (w w′ : List Float) : Type 0 wher
 
 -- ---- doubling
 
+-- slot c becomes 2 times its product with the cosine
+pub record Doubled (f : Format) (n c : ℕ) (w w′ : List Float) : Type 0 where
+  pub product : slot n w′ c ≡ timesM f n (powerOfTwo 1) (mulM f n (slot n w c) (slot n w 4))
+  pub only : Only (member (c ∷ 1 ∷ [])) w w′
+
+-- the cosine of the double angle, and sine and cosine of it
 pub record CosineDoubled (f : Format) (n : ℕ) (w w′ : List Float) : Type 0 where
   pub cosine : slot n w′ 4 ≡ minusIdentityM f n (timesM f n (powerOfTwo 1) (mulM f n (slot n w 4) (slot n w 4)))
   pub only : Only (member (1 ∷ 4 ∷ [])) w w′
 
-pub record SineDoubled (f : Format) (n : ℕ) (w w′ : List Float) : Type 0 where
+pub record BothDoubled (f : Format) (n : ℕ) (w w′ : List Float) : Type 0 where
   pub sine : slot n w′ 0 ≡ timesM f n (powerOfTwo 1) (mulM f n (slot n w 0) (slot n w 4))
-  pub only : Only (member (0 ∷ 1 ∷ [])) w w′
+  pub cosine : slot n w′ 4 ≡ minusIdentityM f n (timesM f n (powerOfTwo 1) (mulM f n (slot n w 4) (slot n w 4)))
+  pub only : Only (member (0 ∷ 1 ∷ 4 ∷ [])) w w′
 
 -- the cosine alone, and sine and cosine, after i doublings
 pub record CosineAfter (f : Format) (n : ℕ) (w : List Float) (i : ℕ) (w′ : List Float) : Type 0 where

@@ -1,12 +1,14 @@
 // The cosine of the matrix X of order n in slot 0: X2, X4 and X6, powers of X, stand in slots 1, 2 and 3, and the cosine in slot 4.
 ghost use mathlib.Core.Path.{_≡_};
-ghost use Prim.Native.Nat.{_^_, _≤_};
+ghost use Prim.Native.Nat.{_^_, _<_, _≤_};
+ghost use mathlib.Core.Bool.{false};
 ghost use mathlib.Core.List.{[], _∷_};
+ghost use lib.Dec.{eqb};
 ghost use lib.Ieee.{binary64};
 ghost use Rattle.arithmetic.specs.Workspace.{Room, slot};
 ghost use Rattle.arithmetic.specs.Outputs.{Replaced};
 ghost use Rattle.functions.specs.Trigonometric.{oneOver, cosM};
-ghost use Rattle.powers.specs.Series.{EvenPowers, Sixth, Beside, Eighth, CosineDoubled, CosineAfter, CosineRun};
+ghost use Rattle.powers.specs.Series.{EvenPowers, Sixth, Beside, Eighth, Doubled, CosineDoubled, CosineAfter, CosineRun};
 use crate::halvings::halvings_for;
 use arithmetic::answer::Outcome;
 use arithmetic::float::inverse_power_of_two;
@@ -69,13 +71,22 @@ pub fn cosine_to_8(w: &mut [f64], n: usize)
     accumulate(w, 4, 0, one_over(40320), n);
 }
 
-// The cosine becomes that of the double angle, 2 C C - I. Slot 1 is scratch.
+// Slot c becomes 2 times its product with the cosine in slot 4. Slot 1 is scratch.
+pub fn double(w: &mut [f64], c: usize, n: usize)
+    requires { ⌜ Room n (now w) ⌝ }
+    requires { ⌜ (c < 32) × (eqb c 1 ≡ false) ⌝ }
+    ensures { λ _. ⌜ Doubled binary64 n c (now (w .entry)) (now (w .exit)) ⌝ }
+{
+    mult(w, c, 4, 1, n);
+    times(w, 1, c, 2.0, n);
+}
+
+// The cosine becomes that of the double angle, 2 C C - I.
 pub fn double_cosine(w: &mut [f64], n: usize)
     requires { ⌜ Room n (now w) ⌝ }
     ensures { λ _. ⌜ CosineDoubled binary64 n (now (w .entry)) (now (w .exit)) ⌝ }
 {
-    mult(w, 4, 4, 1, n);
-    times(w, 1, 4, 2.0, n);
+    double(w, 4, n);
     minus_identity(w, 4, n);
 }
 

@@ -5,9 +5,9 @@ ghost use lib.Ieee.{binary64};
 ghost use Rattle.arithmetic.specs.Workspace.{Room, slot};
 ghost use Rattle.arithmetic.specs.Outputs.{Replaced};
 ghost use Rattle.functions.specs.Trigonometric.{sinM};
-ghost use Rattle.powers.specs.Series.{OddPowers, Seventh, BothSeries, SineDoubled, BothAfter, SineRun};
+ghost use Rattle.powers.specs.Series.{OddPowers, Seventh, BothSeries, BothDoubled, BothAfter, SineRun};
 use crate::cosine::cosine_beside;
-use crate::cosine::double_cosine;
+use crate::cosine::double;
 use crate::cosine::one_over;
 use crate::halvings::halvings_for;
 use arithmetic::answer::Outcome;
@@ -15,9 +15,9 @@ use arithmetic::float::inverse_power_of_two;
 use arithmetic::norm::norm_1;
 use arithmetic::workspace::accumulate;
 use arithmetic::workspace::deduct;
+use arithmetic::workspace::minus_identity;
 use arithmetic::workspace::mult;
 use arithmetic::workspace::scale;
-use arithmetic::workspace::times;
 
 // The odd powers of X, by X2 in slot 1.
 pub fn odd_powers(w: &mut [f64], n: usize)
@@ -49,24 +49,24 @@ pub fn sine_and_cosine(w: &mut [f64], n: usize)
     sine_to_7(w, n);
 }
 
-// The sine becomes that of the double angle, 2 S C. Slot 1 is scratch.
-pub fn double_sine(w: &mut [f64], n: usize)
+// Sine and cosine become those of the double angle, 2 S C and 2 C C - I: the sine first, by the cosine that is not doubled yet.
+pub fn double_angle(w: &mut [f64], n: usize)
     requires { ⌜ Room n (now w) ⌝ }
-    ensures { λ _. ⌜ SineDoubled binary64 n (now (w .entry)) (now (w .exit)) ⌝ }
+    ensures { λ _. ⌜ BothDoubled binary64 n (now (w .entry)) (now (w .exit)) ⌝ }
 {
-    mult(w, 0, 4, 1, n);
-    times(w, 1, 0, 2.0, n);
+    double(w, 0, n);
+    double(w, 4, n);
+    minus_identity(w, 4, n);
 }
 
-// Sine and cosine are doubled s times: the sine first, by the cosine of the same angle.
+// The same s times.
 pub fn double_both(w: &mut [f64], n: usize, s: u64)
     requires { ⌜ Room n (now w) ⌝ }
     ensures { λ _. ⌜ BothAfter binary64 n (now (w .entry)) s (now (w .exit)) ⌝ }
 {
     let mut i = 0;
     while i < s {
-        double_sine(w, n);
-        double_cosine(w, n);
+        double_angle(w, n);
         i += 1;
     }
 }

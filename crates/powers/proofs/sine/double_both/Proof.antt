@@ -1,6 +1,6 @@
 -- `double_both` meets its contract. The invariant: the first i doublings are done. Assumes nothing.
 use Prim.Native.Nat.{_-_, _≤_}
-use mathlib.Core.Path.{_≡_, _∙_}
+use mathlib.Core.Path.{_≡_}
 use lib.Ieee.{binary64}
 use Rattle.arithmetic.proofs.Slots.{room-kept}
 use Rattle.powers.specs.Series.{BothAfter}
@@ -18,14 +18,8 @@ abbrev μ-loop : tie.MeasureT-loop
 loop-holds : tie.Need-loop-holds Inv-loop μ-loop
 loop-holds c = (omega arith, both-none binary64 _ _ (c .before .pre))
 
-double-sine-requires : tie.Need-double-sine-requires Inv-loop μ-loop
-double-sine-requires c κs = room-kept (c .before .before .before .before .pre) (c .before .before .loop .inv .1 .only .long)
-
-double-cosine-requires : tie.Need-double-cosine-requires Inv-loop μ-loop
-double-cosine-requires c κs =
-    let sine = c .before .before .before in
-    let at-loop = sine .before .before .before in
-    room-kept (at-loop .before .before .pre) (sine .double-sine .kept .0 ∙ at-loop .loop .inv .1 .only .long)
+double-angle-requires : tie.Need-double-angle-requires Inv-loop μ-loop
+double-angle-requires c κs = room-kept (c .before .before .before .before .pre) (c .before .before .loop .inv .1 .only .long)
 
 add-i : tie.Need-add-i Inv-loop μ-loop
 add-i c = omega arith
@@ -35,13 +29,10 @@ loop-less c = omega arith
 
 loop-again : tie.Need-loop-again Inv-loop μ-loop
 loop-again c =
-    let cosine = c .before .before in
-    let sine = cosine .before .before .before .before in
-    let at-loop = sine .before .before .before in
-    let s = at-loop .before .before in (
-      omega arith,
-      both-more binary64 (s .args .n) (s .args .w .now) (s .pre) (at-loop .loop .i) (at-loop .loop .w) (sine .double-sine .last .0) (cosine .double-cosine .last .0) (at-loop .loop .inv .1) (sine .double-sine .ensures) (cosine .double-cosine .ensures),
-    )
+    let doubled = c .before .before in
+    let at-loop = doubled .before .before .before in
+    let s = at-loop .before .before in
+    (omega arith, both-more binary64 (s .args .n) (s .args .w .now) (s .pre) (at-loop .loop .i) (at-loop .loop .w) (doubled .double-angle .last .0) (at-loop .loop .inv .1) (doubled .double-angle .ensures))
 
 same-length : tie.Need-same-length Inv-loop μ-loop
 same-length c = c .before .loop .inv .1 .only .long
@@ -58,8 +49,7 @@ double-both-spec =
     Inv-loop
     μ-loop
     loop-holds
-    double-sine-requires
-    double-cosine-requires
+    double-angle-requires
     add-i
     loop-less
     loop-again
