@@ -11,16 +11,15 @@ use Rattle.arithmetic.specs.Float.{one, powerOfTwo, inversePowerOfTwo}
 use Rattle.arithmetic.specs.Product.{mulM, timesM, scaleM, identityM, minusIdentityM, deductM, accumulateM, addMultipleM}
 use Rattle.arithmetic.specs.Workspace.{Room, slot, store, member, Only}
 use Rattle.arithmetic.specs.Norm.{norm1}
-use Rattle.arithmetic.specs.Result.{done}
 use Rattle.arithmetic.proofs.MatrixLaws.{square-le}
 use Rattle.arithmetic.proofs.ProductLaws.{accumulateM-comm, length-mulM, length-timesM}
 use Rattle.arithmetic.proofs.Slots.{picks, slot-store, room-kept, room-within, member-here, member-next, only-refl, only-trans, only-more, only-store, slot-only}
 use Rattle.arithmetic.proofs.States.{start, held-at, step-mult, step-identity, step-deduct, step-accumulate, step-minus-identity, step-scale, step-copy, step-call, member-among}
 use Rattle.arithmetic.proofs.OutputLaws.{Late}
 use Rattle.functions.specs.Exponential.{scaled}
+use Rattle.functions.proofs.HalvingLaws.{halvings-late}
 use Rattle.functions.specs.Trigonometric.{oneOver, cosineTo6, cosineTo8, cosineBeside, sineTo7, cosineDoubled, sineDoubled, cosineAt, sineAt, trigonometricHalvings, cosM, sinM}
 use Rattle.powers.specs.Series.{EvenPowers, Sixth, Beside, Eighth, OddPowers, Seventh, BothSeries, Doubled, CosineDoubled, BothDoubled, CosineAfter, BothAfter, CosineRun, SineRun}
-use Rattle.powers.proofs.HalvingLaws.{halvings-late}
 
 -- the constant 2.0 of the code
 pub two-bits : ofBits binary64 0x4000_0000_0000_0000 ≡ powerOfTwo 1
@@ -221,8 +220,8 @@ module _ (f : Format) (n : ℕ) (w₀ : List Float) (r : Room n w₀) where
 
 pub cosine-late : (f : Format) (n : ℕ) (a : List Float) → Late (cosM f n a)
 unfolding cosM trigonometricHalvings
-cosine-late f n a = halvings-late (add f (norm1 f n a) one) (λ s. done s (cosineAt f n s a)) (λ s. tt)
+cosine-late f n a = halvings-late (add f (norm1 f n a) one) (λ s. cosineAt f n s a)
 
 pub sine-late : (f : Format) (n : ℕ) (a : List Float) → Late (sinM f n a)
 unfolding sinM trigonometricHalvings
-sine-late f n a = halvings-late (add f (norm1 f n a) one) (λ s. done s (sineAt f n s a)) (λ s. tt)
+sine-late f n a = halvings-late (add f (norm1 f n a) one) (λ s. sineAt f n s a)

@@ -192,3 +192,7 @@ pub whole-positive : (f : Format) (n : ℕ) (a : List Float) (e : ℤ) → isNeg
 unfolding wholePower
 whole-positive f n a (pos e) h = refl
 whole-positive f n a (negsuc e) h = let z : _≡_ {A = ℕ} 0 1 = cc in absurd (omega arith)
+
+-- an exponent that is passed to another function
+pub whole-read : (f : Format) (n : ℕ) (a : List Float) (e : ℤ) → SFits w64 e → wholePower f n a (toZ w64 (ofZ w64 e)) ≡ wholePower f n a e
+whole-read f n a e h = ap (wholePower f n a) (toZ-ofZ w64 e h)

@@ -1,22 +1,12 @@
 -- What the functions of cosine and sine leave in a workspace. X, the matrix of order n, stands in slot 0, and the cosine in slot 4. Definitions only.
-use Prim.Native.Nat.{ℕ, _≤_}
+use Prim.Native.Nat.{ℕ}
 use mathlib.Core.Path.{_≡_}
 use mathlib.Core.List.{List, [], _∷_}
 use lib.Ieee.{Float, Format}
 use Rattle.arithmetic.specs.Float.{powerOfTwo}
 use Rattle.arithmetic.specs.Product.{mulM, timesM, minusIdentityM, deductM, addMultipleM}
 use Rattle.arithmetic.specs.Workspace.{slot, member, Only}
-use Rattle.arithmetic.specs.Result.{done, _>>=_}
-use Rattle.arithmetic.specs.Answers.{reported}
-use Rattle.arithmetic.specs.declared.answer.Outcome.{Outcome}
-use Rattle.arithmetic.specs.declared.answer.Outcome.the-variants.{Done}
-use Rattle.functions.specs.Powers.{halvingsFor}
 use Rattle.functions.specs.Trigonometric.{oneOver, cosineTo6, cosineTo8, cosineBeside, sineTo7, cosineDoubled, sineDoubled, cosineAt, sineAt}
-
--- the halvings of a norm as an outcome: done with them, or refusal 12
-pub record Halving (norm : Float) (o : Outcome) : Type 0 where
-  pub counted : reported o ≡ (halvingsFor norm >>= λ s. done s tt)
-  pub few : (s : ℕ) → o ≡ Done s → s ≤ 1024
 
 -- ---- even powers of X, as the cosine's sum forms them
 

@@ -1,4 +1,4 @@
--- What the functions of whole powers leave in a workspace: a power of the matrix of order n in slot 0, the product in slot 1. Slot 2 is scratch. Definitions only.
+-- What the functions of powers leave in a workspace: a power of the matrix of order n in slot 0, the product in slot 1. Slot 2 is scratch. Definitions only.
 use Prim.Native.Nat.{ℕ, _%_}
 use mathlib.Core.Path.{_≡_}
 use mathlib.Core.Bool.{Bool, true, false, cond}
@@ -6,12 +6,12 @@ use mathlib.Core.List.{List, [], _∷_}
 use lib.Dec.{eqb}
 use lib.IntN.{ℤ, pos, negsuc}
 use lib.Ieee.{Float, Format}
-use Rattle.arithmetic.specs.Product.{mulM, squared}
+use Rattle.arithmetic.specs.Product.{mulM, timesM, squared}
 use Rattle.arithmetic.specs.Workspace.{slot, member, Only}
 use Rattle.arithmetic.specs.Result.{Result, done, _>>=_}
 use Rattle.lu.specs.Solve.{inverse}
 use Rattle.functions.specs.Roots.{orNotConverged}
-use Rattle.functions.specs.Powers.{bitPower}
+use Rattle.functions.specs.Powers.{expM, bitPower}
 
 -- the product is multiplied by slot 0 where the lowest bit of `rest` is set
 pub record BitMultiplied (f : Format) (n rest : ℕ) (w w′ : List Float) : Type 0 where
@@ -42,3 +42,7 @@ isNegative (negsuc e) = true
 -- the power e of the inverse
 abbrev pub negativePower : Format → ℕ → List Float → ℕ → Result (List Float)
 negativePower f n a e = orNotConverged (inverse f n a) >>= λ b. done 0 (bitPower f n b e 64)
+
+-- the exponential of p times l, with no halvings reported
+abbrev pub multipleExponential : Format → ℕ → Float → List Float → Result (List Float)
+multipleExponential f n p l = expM f n (timesM f n p l) >>= λ x. done 0 x

@@ -2,14 +2,16 @@
 ghost use lib.ListN.{length};
 ghost use lib.Ieee.{binary64};
 ghost use Rattle.arithmetic.specs.Outputs.{OneOutputIn};
-ghost use Rattle.functions.specs.Calls.{cosm as cosmOf, sinm as sinmOf};
+ghost use Rattle.functions.specs.Calls.{cosm as cosmOf, sinm as sinmOf, powm as powmOf};
 use crate::cosine::cosm_in;
+use crate::power::powm_in;
 use crate::sine::sinm_in;
 use arithmetic::answer::Answer;
 use arithmetic::answer::Question;
 use arithmetic::answer::refused;
 use arithmetic::output::deliver;
 use arithmetic::question::ask_expm;
+use arithmetic::question::ask_powm;
 use arithmetic::workspace::copy_in;
 
 // The cosine of the matrix a is written to out.
@@ -35,6 +37,27 @@ pub fn sinm(rows: usize, columns: usize, a: &[f64], out: &mut [f64], w: &mut [f6
         Question::Passed => {
             copy_in(w, 0, a);
             let outcome = sinm_in(w, rows);
+            deliver(outcome, out, w)
+        }
+    }
+}
+
+// The power p of the matrix a is written to out.
+pub fn powm(
+    rows: usize,
+    columns: usize,
+    a: &[f64],
+    p: f64,
+    out: &mut [f64],
+    w: &mut [f64],
+) -> Answer
+    ensures { λ r. ⌜ OneOutputIn (powmOf binary64 rows columns (now (a .entry)) (length (now (out .entry))) (length (now (w .entry))) p) (r .outcome) (now (out .entry)) (now (out .exit)) (now (w .entry)) (now (w .exit)) ⌝ }
+{
+    match ask_powm(rows, columns, a, p, out.len(), w.len()) {
+        Question::No(why) => refused(why),
+        Question::Passed => {
+            copy_in(w, 0, a);
+            let outcome = powm_in(w, rows, p);
             deliver(outcome, out, w)
         }
     }

@@ -9,7 +9,6 @@ ghost use Rattle.arithmetic.specs.Workspace.{Room, slot};
 ghost use Rattle.arithmetic.specs.Outputs.{Replaced};
 ghost use Rattle.functions.specs.Trigonometric.{oneOver, cosM};
 ghost use Rattle.powers.specs.Series.{EvenPowers, Sixth, Beside, Eighth, Doubled, CosineDoubled, CosineAfter, CosineRun};
-use crate::halvings::halvings_for;
 use arithmetic::answer::Outcome;
 use arithmetic::float::inverse_power_of_two;
 use arithmetic::float::of_small;
@@ -22,6 +21,7 @@ use arithmetic::workspace::minus_identity;
 use arithmetic::workspace::mult;
 use arithmetic::workspace::scale;
 use arithmetic::workspace::times;
+use functions::halvings::halvings_for;
 
 // The rounded reciprocal of k.
 pub fn one_over(k: usize) -> f64

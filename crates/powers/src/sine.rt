@@ -9,7 +9,6 @@ ghost use Rattle.powers.specs.Series.{OddPowers, Seventh, BothSeries, Bo
 use crate::cosine::cosine_beside;
 use crate::cosine::double;
 use crate::cosine::one_over;
-use crate::halvings::halvings_for;
 use arithmetic::answer::Outcome;
 use arithmetic::float::inverse_power_of_two;
 use arithmetic::norm::norm_1;
@@ -18,6 +17,7 @@ use arithmetic::workspace::deduct;
 use arithmetic::workspace::minus_identity;
 use arithmetic::workspace::mult;
 use arithmetic::workspace::scale;
+use functions::halvings::halvings_for;
 
 // The odd powers of X, by X2 in slot 1.
 pub fn odd_powers(w: &mut [f64], n: usize)

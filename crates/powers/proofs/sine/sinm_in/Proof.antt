@@ -1,12 +1,15 @@
 -- `sinm_in` meets its contract. Assumes nothing.
+use mathlib.Core.Path.{ap, _∙_}
 use mathlib.Core.List.{[], _∷_}
 use lib.Ieee.{binary64, add}
+use Rattle.arithmetic.specs.Answers.{reported}
 use Rattle.arithmetic.specs.Float.{one}
 use Rattle.arithmetic.specs.Norm.{norm1}
 use Rattle.arithmetic.specs.Workspace.{slot}
 use Rattle.arithmetic.proofs.ProductLaws.{one-bits}
+use Rattle.functions.specs.Powers.{halvingsReport}
 use Rattle.functions.specs.Trigonometric.{sineAt, trigonometricHalvings, sinM}
-use Rattle.powers.proofs.HalvingLaws.{halving-of, replaced-none, replaced-done}
+use Rattle.powers.proofs.ReplacedLaws.{halved-none, halved-done}
 use native.Mathlib.Omega.{arith}
 use borrow.Author.Needs.{needs}
 use Rattle.powers.proofs.sine.sinm_in.Statement.{statement}
@@ -28,7 +31,7 @@ sine-at-requires : tie.Need-sine-at-requires
 sine-at-requires c κs =
     let call = c .before .before .before .before in
     let s = c .before .before .before .before .before .before .before .before in
-    (s .pre, omega (arith, call .halvings-for .ensures .few _ (c .before .before .halvings .given .1)))
+    (s .pre, omega (arith, call .halvings-for .ensures .1 _ (ap reported (c .before .before .halvings .given .1))))
 
 same-length : tie.Need-same-length
 same-length c = search needs
@@ -40,8 +43,8 @@ returns c =
     let s = c .before .before .before .before .before .before .before in
     let a = s .args in
     let x = slot (a .n) (a .w .now) 0 in
-    let H = halving-of (call .halvings-for .ensures) (λ i. add binary64 (call .before .norm-1 .ensures i) (one-bits i)) in
-    replaced-none (0 ∷ 1 ∷ 2 ∷ 3 ∷ 4 ∷ 5 ∷ []) (a .n) (λ s. sineAt binary64 (a .n) s x) (add binary64 (norm1 binary64 (a .n) x) one) (call .halvings-for .result) H (a .w .now) _ (c .before .why .given .1)
+    let H = call .halvings-for .ensures .0 ∙ (λ i. halvingsReport (add binary64 (call .before .norm-1 .ensures i) (one-bits i))) in
+    halved-none (0 ∷ 1 ∷ 2 ∷ 3 ∷ 4 ∷ 5 ∷ []) (a .n) (λ s. sineAt binary64 (a .n) s x) (add binary64 (norm1 binary64 (a .n) x) one) (call .halvings-for .result) H (a .w .now) _ (c .before .why .given .1)
 
 same-length-2 : tie.Need-same-length-2
 same-length-2 c = search needs
@@ -54,8 +57,8 @@ returns-2 c =
     let s = c .before .before .before .before .before .before .before .before .before .before .before in
     let a = s .args in
     let x = slot (a .n) (a .w .now) 0 in
-    let H = halving-of (call .halvings-for .ensures) (λ i. add binary64 (call .before .norm-1 .ensures i) (one-bits i)) in
-    replaced-done (0 ∷ 1 ∷ 2 ∷ 3 ∷ 4 ∷ 5 ∷ []) (a .n) (λ s. sineAt binary64 (a .n) s x) (add binary64 (norm1 binary64 (a .n) x) one) (call .halvings-for .result) H (a .w .now) _ (run .sine-at .last .0) (c .before .before .before .before .before .halvings .given .1) (run .sine-at .ensures .result) (run .sine-at .ensures .only)
+    let H = call .halvings-for .ensures .0 ∙ (λ i. halvingsReport (add binary64 (call .before .norm-1 .ensures i) (one-bits i))) in
+    halved-done (0 ∷ 1 ∷ 2 ∷ 3 ∷ 4 ∷ 5 ∷ []) (a .n) (λ s. sineAt binary64 (a .n) s x) (add binary64 (norm1 binary64 (a .n) x) one) (call .halvings-for .result) H (a .w .now) _ (run .sine-at .last .0) (c .before .before .before .before .before .halvings .given .1) (run .sine-at .ensures .result) (run .sine-at .ensures .only)
 
 pub sinm-in-spec : {M : Type 1} → statement M
 sinm-in-spec =
