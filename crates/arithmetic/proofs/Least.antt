@@ -1,9 +1,9 @@
 -- The least power of two that is not below a number: `halvings` gives it, and so do the fields of a bit pattern, over the format. Assumes nothing.
-use mathlib.Core.Path.{_≡_, sym, ap, _∙_, subst}
+use mathlib.Core.Path.{_≡_, refl, sym, ap, _∙_, subst}
 use mathlib.Core.Logic.{_⊎_, inl, inr}
 use mathlib.Core.Bool.{Bool, true, false, not, _&&_, _||_}
 use Prim.Native.Nat.{ℕ, zero, suc, _+_, _-_, _*_, _/_, _%_, _^_, _≤_, _<_}
-use native.Mathlib.Nat.{le-trans, le-of-eq, le-of-lt, le-of-suc-le-suc, lt-of-lt-of-le, lt-of-le-of-lt, lt-of-not-le, not-le-of-lt, le-antisymm, eq-or-lt-of-le, not-suc-le-zero, mul-one, one-mul, mul-comm, mul-right-comm, mul-le-mul-right, mul-lt-mul-of-pos-right, le-of-mul-le-mul-right, lt-of-mul-lt-mul-right, div-mul-le-self, lt-div-mul-add, mod-lt, zero-add}
+use native.Mathlib.Nat.{le-trans, le-of-eq, le-of-lt, le-of-suc-le-suc, lt-of-lt-of-le, lt-of-le-of-lt, lt-of-not-le, not-le-of-lt, le-antisymm, eq-or-lt-of-le, not-suc-le-zero, mul-one, one-mul, mul-comm, mul-right-comm, mul-le-mul-right, mul-lt-mul-of-pos-right, le-of-mul-le-mul-right, lt-of-mul-lt-mul-right, div-mul-le-self, lt-div-mul-add, div-eq-of-lt, mod-lt, zero-add}
 use native.Mathlib.Omega.{arith}
 use native.Mathlib.Decide.{decLe}
 use lib.IntN.{ℤ}
@@ -14,7 +14,7 @@ use lib.Ieee.Digits.{size-lt, size-reaches}
 use lib.Ieee.Fits.{two, reach, down-pos, eq→eqb, and-r}
 use lib.Ieee.Positive.{num, den, den-pos}
 use lib.Ieee.Scale.{finite}
-use Rattle.arithmetic.specs.Float.{halvings, Least, +zero, one}
+use Rattle.arithmetic.specs.Float.{halvings, magnitude, Least, +zero, one}
 use Rattle.arithmetic.proofs.Patterns.{twice-hid}
 use Rattle.arithmetic.proofs.Middle.{pow-lt-back}
 use Rattle.arithmetic.proofs.Cases as cases
@@ -255,3 +255,13 @@ halvings-le f x h = least-le (num x) (den x) (halvings x) (suc (emax f)) (halvin
     range nan h = nothing
     range (inf s) h = nothing
     range (fin s m e) h = finite-range f s m e h
+
+-- a sign does not count
+pub halvings-magnitude : (x : Float) → halvings (magnitude x) ≡ halvings x
+unfolding halvings magnitude
+halvings-magnitude nan = refl
+halvings-magnitude (inf s) = refl
+halvings-magnitude (fin s zero e) =
+    let below : 0 * up e + (down e - 1) < down e = omega (arith, down-pos e) in
+    ap (λ (q : ℕ). size (q - 1)) (sym (div-eq-of-lt below))
+halvings-magnitude (fin s (suc m) e) = refl

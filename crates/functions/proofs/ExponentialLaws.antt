@@ -1,29 +1,39 @@
 -- Laws of a run of the exponential in a workspace: a term of the Padé sums, a power, and the quotient or the numerator in its place. Assumes nothing.
 use mathlib.Core.Path.{_≡_, refl, sym, ap, _∙_, subst}
 use mathlib.Core.List.{List, [], _∷_}
-use mathlib.Core.Logic.{inl}
 use mathlib.Core.Bool.{Bool}
-use Prim.Native.Nat.{ℕ, zero, suc, _+_, _*_}
+use Prim.Native.Nat.{ℕ, zero, suc, _+_, _-_, _*_, _≤_}
 use native.Mathlib.Numerals.{add-one}
 use native.Mathlib.Omega.{arith}
-use lib.ListN.{length}
+use lib.Dec.{lit<}
+use lib.ListN.{length, take, drop, length-drop}
+use lib.Seq.{take-all}
 use lib.Ieee.{Float, Format, add, mul}
 use borrow.Author.Tests.{eq-eqb, ne-eqb}
 use Rattle.lu.specs.declared.LuOutcome.{LuOutcome}
 use Rattle.lu.specs.declared.LuOutcome.the-variants.{Factored, Singular}
 use Rattle.arithmetic.specs.Float.{+zero, inversePowerOfTwo}
-use Rattle.arithmetic.specs.Matrix.{at, item, part, put}
+use Rattle.arithmetic.specs.Matrix.{at, item, part}
 use Rattle.arithmetic.specs.Product.{zeroM, dot, accumulateM, identityM, scaleM, squared, mulM}
-use Rattle.arithmetic.specs.Workspace.{Room, slot, store, member, Only, Squared}
-use Rattle.arithmetic.proofs.MatrixLaws.{grid-is, at-grid, square-le, length-grid}
-use Rattle.arithmetic.proofs.PartLaws.{part-put, part-put-apart, length-put, length-part}
+use Rattle.arithmetic.specs.Workspace.{Room, slot, store, member, Squared}
+use Rattle.arithmetic.proofs.MatrixLaws.{grid-is, at-grid, square-le}
+use Rattle.arithmetic.proofs.PartLaws.{lent}
 use Rattle.arithmetic.proofs.ProductLaws.{length-zeroM, at-tab, length-accumulateM, dot-more}
-use Rattle.arithmetic.proofs.Slots.{only-trans, only-store, length-slot, only-refl}
+use Rattle.arithmetic.proofs.Slots.{only-trans, only-more, length-slot, slot-only, only-refl}
 use Rattle.arithmetic.proofs.States.{held, Held, listed, State, start, step-identity, step-zero, step-accumulate, step-call, state-listed, holds-as, held-at, member-among, step-scale, step-copy-in, step-copy, step-mult, Holds}
-use Rattle.lu.specs.Lu.{luFactors, luPivots, luAt, luOutcome}
-use Rattle.lu.specs.Solve.{standIn, divided, quotient, solvedMatrix}
-use Rattle.lu.proofs.LuLaws.{length-luAt}
-use Rattle.functions.specs.Exponential.{coefficient, nextCoefficient, nextPower, power, combinationTo, flipped, flip, Raised, Summed, Exponentiated, numerator, denominator, combination, exponential, pade, scaled}
+use Rattle.arithmetic.specs.Norm.{norm1}
+use Rattle.arithmetic.specs.Result.{Result, done, outcome, exit}
+use Rattle.arithmetic.specs.Answers.{numbered}
+use Rattle.arithmetic.specs.Outputs.{Replaced}
+use Rattle.arithmetic.specs.declared.answer.Outcome.the-variants.{Done, Refused}
+use Rattle.arithmetic.specs.declared.answer.Refusal.{Refusal}
+use Rattle.arithmetic.proofs.OutputLaws.{Late}
+use Rattle.lu.specs.Lu.{luOutcome}
+use Rattle.lu.specs.Solve.{standIn, divided, quotient}
+use Rattle.lu.proofs.DivisionLaws.{divided-slot, divided-only}
+use Rattle.functions.specs.Powers.{halvingsReport, expM}
+use Rattle.functions.proofs.HalvingLaws.{halvings-set, halvings-none, halvings-outcome, halvings-late}
+use Rattle.functions.specs.Exponential.{coefficient, nextCoefficient, nextPower, power, combinationTo, flipped, flip, Raised, Summed, Quotient, Approximated, Exponentiated, numerator, denominator, combination, exponential, pade, scaled}
 
 -- ---- one term more
 
@@ -49,36 +59,21 @@ combination-more f n c a k =
     ∙ ap (λ (x : Float). add f x (mul f (c k) (at n (power f n a k) i j))) (at-grid n n (λ i j. dot f k c (λ m. at n (power f n a m) i j)) i j p q)
     ∙ sym (dot-more f k c (λ m. at n (power f n a m) i j)))
 
--- ---- the quotient, or the numerator in its place
+-- the part that `quotient_or_numerator` returns
+take-part : (w : List Float) (o k : ℕ) → o + k ≤ length w → take k (drop o w) ≡ part w o k
+take-part w o k h = let e : k ≡ o + k - o = omega arith in ap (λ (m : ℕ). take m (drop o w)) e ∙ lent w o k h
 
-length-solvedMatrix : (f : Format) (n m : ℕ) (F : List Float) (ps : List ℕ) (b : List Float) → length (solvedMatrix f n m F ps b) ≡ n * m
-unfolding solvedMatrix
-length-solvedMatrix f n m F ps b = length-grid n m _
+take-rest : (w : List Float) (o : ℕ) → take (length w - o) (drop o w) ≡ drop o w
+take-rest w o = take-all (length w - o) (drop o w) (omega (arith, length-drop o w))
 
--- the part that `divide` factors
-slot-three : (n : ℕ) (w : List Float) → part w 768 (n * n) ≡ slot n w 3
+pub rest-length : (w : List Float) (o : ℕ) → length (take (length w - o) (drop o w)) ≡ length w - o
+rest-length w o = ap length (take-rest w o) ∙ length-drop o w
+
+pub quotient-part : {count : ℕ} (n : ℕ) (w : List Float) (o : LuOutcome) → count ≡ n * n → Room n w
+    → take count (standIn o (take (length w - 1280) (drop 1280 w)) (take (length w - 512) (drop 512 w))) ≡ standIn o (slot n w 5) (slot n w 2)
 unfolding slot
-slot-three n w = refl
-
--- what `divide` leaves in slot 2, where the denominator stood in slot 3
-pub divided-slot : (f : Format) (n : ℕ) (w : List Float) (r : LuOutcome) → Room n w → slot n (divided f n n 768 512 w r) 2 ≡ standIn r (quotient f n (slot n w 3) (slot n w 2)) (slot n w 2)
-unfolding divided quotient slot
-divided-slot f n w Factored h =
-    part-put (put w 768 (luFactors f n (part w 768 (n * n)))) 512 (solvedMatrix f n n (luFactors f n (part w 768 (n * n))) (luPivots f n (part w 768 (n * n))) (part w 512 (n * n))) (n * n)
-    (length-solvedMatrix f n n (luFactors f n (part w 768 (n * n))) (luPivots f n (part w 768 (n * n))) (part w 512 (n * n))) (omega (arith, length-put w 768 (luFactors f n (part w 768 (n * n))), square-le n (h .order), h .space))
-divided-slot f n w (Singular k) h =
-    part-put-apart w 768 (n * n) (luAt f n (part w 768 (n * n)) k) 512 (n * n) (inl (omega (arith, square-le n (h .order)))) (omega (arith, length-luAt f n (part w 768 (n * n)) k (length-part w 768 (n * n))))
-
-pub divided-only : (f : Format) (n : ℕ) (w : List Float) (r : LuOutcome) → Room n w → Only (member (2 ∷ 3 ∷ [])) w (divided f n n 768 512 w r)
-unfolding divided store
-divided-only f n w Factored h =
-    let F = luFactors f n (part w 768 (n * n)) in
-    let X = solvedMatrix f n n F (luPivots f n (part w 768 (n * n))) (part w 512 (n * n)) in
-    let size = length-luAt f n (part w 768 (n * n)) n (length-part w 768 (n * n)) in
-    only-trans (only-store (member (2 ∷ 3 ∷ [])) w 3 F refl (unfold luFactors in omega (arith, size, square-le n (h .order))))
-    (only-store (member (2 ∷ 3 ∷ [])) (put w 768 F) 2 X refl (omega (arith, length-solvedMatrix f n n F (luPivots f n (part w 768 (n * n))) (part w 512 (n * n)), square-le n (h .order))))
-divided-only f n w (Singular k) h =
-    only-store (member (2 ∷ 3 ∷ [])) w 3 (luAt f n (part w 768 (n * n)) k) refl (omega (arith, length-luAt f n (part w 768 (n * n)) k (length-part w 768 (n * n)), square-le n (h .order)))
+quotient-part n w Factored e r = rw (e, take-rest) (take-part w 1280 (n * n) (omega (arith, square-le n (r .order), r .space)))
+quotient-part n w (Singular k) e r = rw (e, take-rest) (take-part w 512 (n * n) (omega (arith, square-le n (r .order), r .space)))
 
 -- ---- the Padé sums, term by term
 
@@ -88,6 +83,24 @@ sums f n a k = (0, held n a) ∷ (1, held n (power f n a k)) ∷ (2, held n (com
 
 abbrev pub summing : ℕ → Bool
 summing = member (1 ∷ 2 ∷ 3 ∷ 4 ∷ [])
+
+-- the slots of the whole run
+abbrev all : ℕ → Bool
+all = member (0 ∷ 1 ∷ 2 ∷ 3 ∷ 4 ∷ 5 ∷ [])
+
+-- the part that `divide` factors
+slot-three : (n : ℕ) (w : List Float) → part w 768 (n * n) ≡ slot n w 3
+unfolding slot
+slot-three n w = refl
+
+-- what stands in for a stand-in
+twice : {A : Type 0} (o : LuOutcome) (q b : A) → standIn o (standIn o q b) b ≡ standIn o q b
+twice Factored q b = refl
+twice (Singular k) q b = refl
+
+pub length-standIn : {k : ℕ} (o : LuOutcome) (q b : List Float) → length q ≡ k → length b ≡ k → length (standIn o q b) ≡ k
+length-standIn Factored q b p r = p
+length-standIn (Singular k) q b p r = r
 
 module _ (f : Format) (n : ℕ) (w₀ : List Float) (r : Room n w₀) where
   -- the power after power 0, and after any other
@@ -146,26 +159,66 @@ module _ (f : Format) (n : ℕ) (w₀ : List Float) (r : Room n w₀) where
     only = only-trans (H .only) (S .only);
   }
 
-  -- ---- all the steps
+  -- ---- the quotient, or the numerator in its place
 
-  pub exponential-steps : (s : ℕ) (w1 w2 w3 w4 w5 : List Float) (o : LuOutcome) → w1 ≡ store w₀ 0 (scaleM f n (inversePowerOfTwo s) (slot n w₀ 0)) → Summed f n w1 w2 → o ≡ luOutcome f n (part w2 768 (n * n)) → w3 ≡ divided f n n 768 512 w2 o
-      → w4 ≡ store w3 0 (slot n w3 2) → Squared f n w4 0 4 s w5 → Exponentiated f n s w₀ w5
-  unfolding exponential pade scaled
-  exponential-steps s w1 w2 w3 w4 w5 o e1 P eo e3 e4 Q =
-      let A = scaleM f n (inversePowerOfTwo s) (slot n w₀ 0) in
-      let all = member (0 ∷ 1 ∷ 2 ∷ 3 ∷ 4 ∷ []) in
-      let s0 = start all n r in
-      let s1 = step-scale n (r .order) f (inversePowerOfTwo s) 0 s0 e1 refl refl refl in
-      let s2 = step-call (1 ∷ 2 ∷ 3 ∷ 4 ∷ []) s1 (P .only) (member-among all (1 ∷ 2 ∷ 3 ∷ 4 ∷ []) refl) in
-      let r2 : Room n w2 = record { order = r .order; space = s2 .space } in
-      let N2 : slot n w2 2 ≡ numerator f n A = P .above ∙ ap (numerator f n) (held-at 0 n s1 refl) in
-      let D2 : slot n w2 3 ≡ denominator f n A = P .under ∙ ap (denominator f n) (held-at 0 n s1 refl) in
-      let eo′ : o ≡ luOutcome f n (denominator f n A) = eo ∙ ap (luOutcome f n) (slot-three n w2 ∙ D2) in
-      let q : slot n w3 2 ≡ standIn (luOutcome f n (denominator f n A)) (quotient f n (denominator f n A) (numerator f n A)) (numerator f n A) =
-      ap (λ (w : List Float). slot n w 2) e3 ∙ divided-slot f n w2 o r2 ∙ (λ i. standIn (eo′ i) (quotient f n (D2 i) (N2 i)) (N2 i)) in
-      let o3 : Only (member (2 ∷ 3 ∷ [])) w2 w3 = subst (λ (w : List Float). Only (member (2 ∷ 3 ∷ [])) w2 w) (sym e3) (divided-only f n w2 o r2) in
-      let s3 = step-call (2 ∷ 3 ∷ []) s2 o3 (member-among all (2 ∷ 3 ∷ []) refl) in
-      let r3 : Room n w3 = record { order = r .order; space = s3 .space } in
-      let s4 = step-copy-in n (r .order) 0 (slot n w3 2) s3 e4 (length-slot n w3 2) refl refl in
-      let s5 = step-call (0 ∷ 4 ∷ []) s4 (Q .only) (member-among all (0 ∷ 4 ∷ []) refl) in
-      record { result = Q .power ∙ ap (squared f n s) (held-at 0 n s4 refl ∙ q); only = s5 .only }
+  -- the numerator is copied to slot 5 and divided there by what stands in slot 3
+  pub quotient-beside : (w1 w2 : List Float) (o : LuOutcome) → w1 ≡ store w₀ 5 (slot n w₀ 2) → o ≡ luOutcome f n (part w1 768 (n * n)) → w2 ≡ divided f n n 768 1280 w1 o → Quotient f n w₀ w2 o
+  quotient-beside w1 w2 o e1 eo e2 =
+      let both = member (3 ∷ 5 ∷ []) in
+      let s1 = step-copy n (r .order) 2 5 (start both n r) e1 refl refl refl in
+      let r1 : Room n w1 = record { order = r .order; space = s1 .space } in
+      let three : slot n w1 3 ≡ slot n w₀ 3 = held-at 3 n s1 refl in
+      let five : slot n w1 5 ≡ slot n w₀ 2 = held-at 5 n s1 refl in
+      record {
+        outcome = eo ∙ ap (luOutcome f n) (slot-three n w1 ∙ three);
+        divided = ap (λ (w : List Float). slot n w 5) e2 ∙ divided-slot f n 3 5 w1 r1 (lit< tt) o refl ∙ (λ i. standIn o (quotient f n (three i) (five i)) (five i));
+        only = only-trans (s1 .only) (rw e2 (divided-only f n 3 5 w1 r1 (lit< tt) o));
+      }
+
+  -- the sums, their quotient, and the stand-in
+  pub pade-steps : (w1 w2 w3 : List Float) (o : LuOutcome) → Summed f n w₀ w1 → Quotient f n w1 w2 o → w3 ≡ store w2 0 (standIn o (slot n w2 5) (slot n w2 2)) → Approximated f n w₀ w3
+  unfolding pade
+  pade-steps w1 w2 w3 o P Q e3 =
+      let A = slot n w₀ 0 in
+      let s1 = step-call (1 ∷ 2 ∷ 3 ∷ 4 ∷ []) (start all n r) (P .only) (member-among all (1 ∷ 2 ∷ 3 ∷ 4 ∷ []) refl) in
+      let s2 = step-call (3 ∷ 5 ∷ []) s1 (Q .only) (member-among all (3 ∷ 5 ∷ []) refl) in
+      let above : slot n w2 2 ≡ numerator f n A = slot-only n (member (3 ∷ 5 ∷ [])) w1 w2 2 1 (Q .only) (omega (arith, square-le n (r .order))) refl ∙ P .above in
+      let eo : o ≡ luOutcome f n (denominator f n A) = Q .outcome ∙ ap (luOutcome f n) (P .under) in
+      let q : slot n w2 5 ≡ standIn o (quotient f n (denominator f n A) (numerator f n A)) (numerator f n A) = Q .divided ∙ (λ i. standIn o (quotient f n (P .under i) (P .above i)) (P .above i)) in
+      let x : standIn o (slot n w2 5) (slot n w2 2) ≡ standIn (luOutcome f n (denominator f n A)) (quotient f n (denominator f n A) (numerator f n A)) (numerator f n A) =
+      (λ i. standIn o (q i) (above i)) ∙ twice o (quotient f n (denominator f n A) (numerator f n A)) (numerator f n A) ∙ ap (λ (z : LuOutcome). standIn z (quotient f n (denominator f n A) (numerator f n A)) (numerator f n A)) eo in
+      let s3 = step-copy-in n (r .order) 0 (standIn o (slot n w2 5) (slot n w2 2)) s2 e3 (length-standIn o (slot n w2 5) (slot n w2 2) (length-slot n w2 5) (length-slot n w2 2)) refl refl in
+      record { result = held-at 0 n s3 refl ∙ x; only = s3 .only }
+
+  -- scaling, the quotient, and the squarings
+  pub exponential-steps : (s : ℕ) (w1 w2 w3 : List Float) → w1 ≡ store w₀ 0 (scaleM f n (inversePowerOfTwo s) (slot n w₀ 0)) → Approximated f n w1 w2 → Squared f n w2 0 4 s w3 → Exponentiated f n s w₀ w3
+  unfolding exponential scaled
+  exponential-steps s w1 w2 w3 e1 P Q =
+      let s1 = step-scale n (r .order) f (inversePowerOfTwo s) 0 (start all n r) e1 refl refl refl in
+      record {
+        result = Q .power ∙ ap (squared f n s) (P .result ∙ ap (pade f n) (held-at 0 n s1 refl));
+        only = only-trans (s1 .only) (only-trans (P .only) (only-more (member-among all (0 ∷ 4 ∷ []) refl) (Q .only)));
+      }
+
+  -- ---- the exponential at the halvings of its norm
+
+  pub expm-done : (s : ℕ) (w1 : List Float) → halvingsReport (norm1 f n (slot n w₀ 0)) ≡ done s tt → Exponentiated f n s w₀ w1
+      → Replaced (0 ∷ 1 ∷ 2 ∷ 3 ∷ 4 ∷ 5 ∷ []) n (expM f n (slot n w₀ 0)) (Done s) w₀ w1
+  unfolding expM outcome exit
+  expm-done s w1 e E =
+      let a = slot n w₀ 0 in
+      rw (halvings-set (norm1 f n a) (λ s. exponential f n s a) s e) (record { outcome = refl; result = E .result; only = E .only })
+
+  pub expm-none : (y : Refusal) → halvingsReport (norm1 f n (slot n w₀ 0)) ≡ numbered y → Replaced (0 ∷ 1 ∷ 2 ∷ 3 ∷ 4 ∷ 5 ∷ []) n (expM f n (slot n w₀ 0)) (Refused y) w₀ w₀
+  unfolding expM exit
+  expm-none y e =
+      let a = slot n w₀ 0 in
+      record {
+        outcome = sym e ∙ sym (halvings-outcome (norm1 f n a) (λ s. exponential f n s a));
+        result = sym (ap (λ (z : Result (List Float)). exit (λ v. v) z a) (halvings-none (norm1 f n a) (λ s. exponential f n s a) y e));
+        only = only-refl all w₀;
+      }
+
+pub late-expM : (f : Format) (n : ℕ) (a : List Float) → Late (expM f n a)
+unfolding expM
+late-expM f n a = halvings-late (norm1 f n a) (λ s. exponential f n s a)

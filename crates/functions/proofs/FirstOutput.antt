@@ -4,18 +4,28 @@ use mathlib.Core.Path.{_≡_, sym, ap, _∙_}
 use mathlib.Core.List.{List}
 use mathlib.Core.Bool.{Bool, false, cond}
 use Prim.Native.Nat.{ℕ, _+_, _-_, _^_, _≤_}
-use native.Mathlib.Nat.{lt-of-lt-of-le, zero-add}
+use native.Mathlib.Nat.{lt-of-lt-of-le, le-trans, zero-add}
 use native.Mathlib.Omega.{arith}
-use lib.Dec.{ltb, lt→ltb}
+use lib.Dec.{ltb, lt→ltb, lit≤}
 use lib.Arith.{le→nltb}
-use lib.Ieee.{Float, Format, prec}
+use lib.Ieee.{Float, Format, binary64, prec}
 use lib.Ieee.Bits.{is-true, is-false}
 use Rattle.arithmetic.specs.Float.{+zero}
 use Rattle.arithmetic.specs.Matrix.{at}
+use Rattle.arithmetic.specs.Norm.{norm1}
+use Rattle.arithmetic.specs.Result.{Result, done, _>>=_, exit}
+use Rattle.arithmetic.specs.Answers.{numbered, reported}
+use Rattle.arithmetic.specs.Outputs.{Both}
+use Rattle.arithmetic.specs.declared.answer.Outcome.{Outcome}
+use Rattle.arithmetic.specs.declared.answer.Refusal.{Refusal}
 use Rattle.arithmetic.proofs.MatrixLaws.{at-grid, grid-is}
 use Rattle.arithmetic.proofs.Corner.{Corner}
 use Rattle.functions.specs.Exponential.{exponential, block, quarter, quarterRow}
-use Rattle.functions.specs.Frechet.{Proviso, FrechetDone}
+use Rattle.functions.specs.Frechet.{Proviso, FirstAlone, Written}
+use Rattle.functions.specs.Powers.{expM, halvingsFor}
+use Rattle.functions.specs.Derivatives.{frechetExpM, blockQuarters}
+use Rattle.functions.proofs.HalvingLaws.{halvings-set, halvings-outcome, not-done}
+use Rattle.functions.proofs.FrechetLaws.{quarters-outcome}
 use Rattle.functions.proofs.PadeLaws.{exponential-corner, length-exponential}
 
 -- ---- the block
@@ -47,7 +57,25 @@ first-output-alone f n s a e h v =
     let c = exponential-corner f n (n + n) (double n) h s a (block n a e) (block-corner n a e) (v .finite) (v .accepted) in
     sym (grid-is n n (λ i j. at (n + n) X i (0 + j)) (exponential f n s a) (length-exponential f n s a) (λ i j I J. sym (ap (at (n + n) X i) (zero-add j) ∙ c .same i j I J)))
 
--- What the code shows is the two quarters: the rest follows, whatever the direction, the workspace and the outputs were.
-pub frechet-done : (f : Format) (n s : ℕ) (a e first second : List Float) → n + n ≤ 2 ^ prec f
-    → first ≡ quarter n 0 (exponential f (n + n) s (block n a e)) → second ≡ quarter n n (exponential f (n + n) s (block n a e)) → FrechetDone f n s a e first second
-frechet-done f n s a e first second h p q = record { exponentials = p; derivative = q; alone = λ v. p ∙ first-output-alone f n s a e h v }
+-- binary64 counts every order that a call takes
+pub counted : (n : ℕ) → n ≤ 8 → n + n ≤ 2 ^ prec binary64
+counted n h = let few : n + n ≤ 16 = omega arith in let most : 16 ≤ 2 ^ prec binary64 = lit≤ tt in le-trans few most
+
+-- A run that is done wrote the upper left quarter: so its first output is the exponential of A, whatever the direction, the workspace and the outputs were.
+pub written-alone : (f : Format) (n : ℕ) (a e first first′ second second′ w w′ : List Float) (o : Outcome) → n + n ≤ 2 ^ prec f
+    → Written (frechetExpM f n a e) o first first′ second second′ w w′ → FirstAlone f n o a e first′
+unfolding frechetExpM expM blockQuarters exit
+written-alone f n a e first first′ second second′ w w′ o h W s d v =
+    let g : ℕ → List Float = λ s. exponential f (n + n) s (block n a e) in
+    let x = norm1 f (n + n) (block n a e) in
+    let E = halvings-set x g s (sym (halvings-outcome x g) ∙ sym (quarters-outcome n (halvingsFor x >>= λ s. done s (g s))) ∙ sym (W .outcome) ∙ d) in
+    W .value ∙ ap (λ (r : Result (List Float)). exit (λ (b : Both). b .value) (blockQuarters n r) first) E ∙ first-output-alone f n s a e h v
+
+-- a refusal says nothing of it
+pub refused-alone : (f : Format) (n : ℕ) (a e first : List Float) (o : Outcome) (y : Refusal) → reported o ≡ numbered y → FirstAlone f n o a e first
+refused-alone f n a e first o y k s d v = absurd (not-done y s (sym k ∙ d))
+
+-- Two runs on the same A that are done at the same halvings have the same first output, whatever else they were given.
+pub same-first : (f : Format) (n s : ℕ) (a e e′ first first′ : List Float) (o o′ : Outcome) → FirstAlone f n o a e first → FirstAlone f n o′ a e′ first′
+    → reported o ≡ done s tt → reported o′ ≡ done s tt → Proviso f n s a e → Proviso f n s a e′ → first ≡ first′
+same-first f n s a e e′ first first′ o o′ F F′ d d′ v v′ = F s d v ∙ sym (F′ s d′ v′)

@@ -1,6 +1,10 @@
 -- Laws that the proofs of this crate and of the crates above cite.
-pub mod PadeLaws
-pub mod FirstOutput
+pub mod HalvingLaws
 pub mod ExponentialLaws
+pub mod PadeLaws
+pub mod BlockLaws
+pub mod FrechetLaws
+pub mod FirstOutput
+pub mod ConditionLaws
 pub mod KroneckerLaws
 pub mod KroneckerQuestions

@@ -19,6 +19,10 @@ use Rattle.functions.specs.Logarithm.{logarithm}
 unfoldable pub halvingsFor : Float → Result ℕ
 halvingsFor x = cond (finite x) (done 0 (halvings x)) (refused 12 0 0)
 
+-- what is reported of them
+unfoldable pub halvingsReport : Float → Result (Unit {0})
+halvingsReport x = halvingsFor x >>= λ s. done s tt
+
 unfoldable pub expM : Format → ℕ → List Float → Result (List Float)
 expM f n a = halvingsFor (norm1 f n a) >>= λ s. done s (exponential f n s a)
 

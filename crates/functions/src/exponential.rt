@@ -1,20 +1,27 @@
 // The exponential at a given number of halvings, in a workspace: the matrix of order n stands in slot 0, a power of it in slot 1, the Padé numerator in
-// slot 2 and the denominator in slot 3. Slot 4 is scratch.
+// slot 2, the denominator in slot 3 and their quotient in slot 5. Slot 4 is scratch.
 ghost use mathlib.Core.Path.{_≡_};
-ghost use Prim.Native.Nat.{_<_, _≤_};
+ghost use Prim.Native.Nat.{_*_, _<_, _≤_};
 ghost use lib.ListN.{length};
 ghost use lib.Ieee.{binary64};
-ghost use Rattle.arithmetic.specs.Workspace.{Room};
-ghost use Rattle.functions.specs.Exponential.{nextCoefficient, Raised, Summed, Exponentiated, flip as flipOf};
+ghost use Rattle.arithmetic.specs.Workspace.{Room, slot, store};
+ghost use Rattle.lu.specs.Solve.{standIn};
+ghost use Rattle.functions.specs.Exponential.{nextCoefficient, Raised, Summed, Quotient, Approximated, Exponentiated, flip as flipOf};
 use arithmetic::float::inverse_power_of_two;
 use arithmetic::float::of_small;
+use arithmetic::matrix::copy_row;
 use arithmetic::workspace::accumulate;
 use arithmetic::workspace::copy;
+use arithmetic::workspace::copy_in;
 use arithmetic::workspace::identity;
 use arithmetic::workspace::mult;
 use arithmetic::workspace::scale;
 use arithmetic::workspace::square;
 use arithmetic::workspace::zero;
+use lu::LuOutcome;
+use lu::part::quotient_or_numerator;
+use lu::room::column_room;
+use lu::room::pivot_room;
 use lu::workspace::divide;
 
 // The Padé coefficient after c, which is coefficient k.
@@ -64,16 +71,85 @@ pub fn pade_sums(w: &mut [f64], n: usize)
     }
 }
 
-// The exponential of the matrix in slot 0 at s halvings takes its place. Where LU refuses the denominator, slot 2 keeps the numerator, which stands in
-// for the quotient. `pivots` and `c` are room for n pivots and one column.
-pub fn exponential_at(w: &mut [f64], n: usize, s: usize, pivots: &mut [usize], c: &mut [f64])
+// Slot 5 becomes the quotient of the numerator in slot 2 by the denominator in slot 3, or the numerator where LU refuses the denominator.
+// `pivots` and `c` are room for n pivots and one column.
+fn pade_divide(w: &mut [f64], n: usize, pivots: &mut [usize], c: &mut [f64]) -> LuOutcome
+    requires { ⌜ Room n (now w) ⌝ }
+    requires { ⌜ (length (now pivots) ≡ n) × (length (now c) ≡ n) ⌝ }
+    ensures { λ r. ⌜ Quotient binary64 n (now (w .entry)) (now (w .exit)) r ⌝ }
+{
+    copy(w, 2, 5, n);
+    divide(w, 768, 1280, n, n, pivots, c)
+}
+
+// Copies the part of the workspace that holds the quotient, or the part that holds the numerator.
+fn copy_quotient(w: &[f64], n: usize, outcome: LuOutcome, out: &mut [f64])
+    requires { ⌜ Room n (now w) ⌝ }
+    requires { ⌜ length (now out) ≡ n * n ⌝ }
+    ensures { λ _. ⌜ now (out .exit) ≡ standIn outcome (slot n (now (w .entry)) 5) (slot n (now (w .entry)) 2) ⌝ }
+{
+    let count = out.len();
+    copy_row(
+        out,
+        quotient_or_numerator(&w[1280..], &w[512..], count, outcome),
+    );
+}
+
+// Room for a matrix of order up to 16.
+fn matrix_room() -> [f64; 256]
+    ensures { λ r. ⌜ 256 ≡ length r ⌝ }
+{
+    [0.0f64; 256]
+}
+
+// Slot 0 becomes the quotient, or the numerator where LU refused the denominator. It is copied by way of `room`.
+fn move_quotient(w: &mut [f64], n: usize, outcome: LuOutcome, room: &mut [f64])
+    requires { ⌜ Room n (now w) ⌝ }
+    requires { ⌜ length (now room) ≡ n * n ⌝ }
+    ensures { λ _. ⌜ now (w .exit) ≡ store (now (w .entry)) 0 (standIn outcome (slot n (now (w .entry)) 5) (slot n (now (w .entry)) 2)) ⌝ }
+{
+    copy_quotient(w, n, outcome, room);
+    copy_in(w, 0, room);
+}
+
+// `move_quotient` with room of its own.
+fn take_quotient(w: &mut [f64], n: usize, outcome: LuOutcome)
+    requires { ⌜ Room n (now w) ⌝ }
+    ensures { λ _. ⌜ now (w .exit) ≡ store (now (w .entry)) 0 (standIn outcome (slot n (now (w .entry)) 5) (slot n (now (w .entry)) 2)) ⌝ }
+{
+    let mut room = matrix_room();
+    move_quotient(w, n, outcome, &mut room[..n * n]);
+}
+
+// The Padé quotient of the matrix in slot 0 takes its place.
+fn pade(w: &mut [f64], n: usize, pivots: &mut [usize], c: &mut [f64])
+    requires { ⌜ Room n (now w) ⌝ }
+    requires { ⌜ (length (now pivots) ≡ n) × (length (now c) ≡ n) ⌝ }
+    ensures { λ _. ⌜ Approximated binary64 n (now (w .entry)) (now (w .exit)) ⌝ }
+{
+    pade_sums(w, n);
+    let outcome = pade_divide(w, n, pivots, c);
+    take_quotient(w, n, outcome);
+}
+
+// The exponential of the matrix in slot 0 at s halvings takes its place.
+fn exponential_in(w: &mut [f64], n: usize, s: u64, pivots: &mut [usize], c: &mut [f64])
     requires { ⌜ Room n (now w) ⌝ }
     requires { ⌜ (s ≤ 1074) × (length (now pivots) ≡ n) × (length (now c) ≡ n) ⌝ }
     ensures { λ _. ⌜ Exponentiated binary64 n s (now (w .entry)) (now (w .exit)) ⌝ }
 {
-    scale(w, 0, inverse_power_of_two(s as u64), n);
-    pade_sums(w, n);
-    divide(w, 768, 512, n, n, pivots, c);
-    copy(w, 2, 0, n);
-    square(w, 0, 4, n, s as u64);
+    scale(w, 0, inverse_power_of_two(s), n);
+    pade(w, n, pivots, c);
+    square(w, 0, 4, n, s);
+}
+
+// `exponential_in` with room of its own.
+pub fn exponential_at(w: &mut [f64], n: usize, s: u64)
+    requires { ⌜ Room n (now w) ⌝ }
+    requires { ⌜ s ≤ 1074 ⌝ }
+    ensures { λ _. ⌜ Exponentiated binary64 n s (now (w .entry)) (now (w .exit)) ⌝ }
+{
+    let mut pivots = pivot_room();
+    let mut column = column_room();
+    exponential_in(w, n, s, &mut pivots[..n], &mut column[..n]);
 }

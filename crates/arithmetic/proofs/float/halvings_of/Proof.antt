@@ -9,7 +9,7 @@ use lib.Ieee.{Float, binary64, fits, isNan, le, ofBits}
 use lib.Ieee.Bits.{toBits-lt}
 use Rattle.arithmetic.specs.Float.{magnitude, halvings, one}
 use Rattle.arithmetic.proofs.Signs.{plain-magnitude}
-use Rattle.arithmetic.proofs.Least.{Plain, none-above, exponent-ge, at-power, past-power}
+use Rattle.arithmetic.proofs.Least.{Plain, none-above, exponent-ge, at-power, past-power, halvings-magnitude}
 use Rattle.arithmetic.proofs.float.halvings_of.Statement.{statement}
 use Rattle.arithmetic.proofs.float.halvings_of.Tie as tie
 
@@ -42,13 +42,13 @@ add-result : tie.Need-add-result
 add-result c = omega (arith, toBits-lt binary64 (c .before .before .magnitude .result) (held (c .before .before)))
 
 returns : tie.Need-returns
-returns c = none-above binary64 (c .before .magnitude .result) (plain (c .before)) (held (c .before)) (under c) ∙ ap halvings (c .before .magnitude .ensures)
+returns c = none-above binary64 (c .before .magnitude .result) (plain (c .before)) (held (c .before)) (under c) ∙ ap halvings (c .before .magnitude .ensures) ∙ halvings-magnitude (c .before .before .args .norm)
 
 returns-2 : tie.Need-returns-2
-returns-2 c = at-power binary64 (c .before .before .magnitude .result) (plain (c .before .before)) (held (c .before .before)) (over (c .before)) (c .if2 .taken) ∙ ap halvings (c .before .before .magnitude .ensures)
+returns-2 c = at-power binary64 (c .before .before .magnitude .result) (plain (c .before .before)) (held (c .before .before)) (over (c .before)) (c .if2 .taken) ∙ ap halvings (c .before .before .magnitude .ensures) ∙ halvings-magnitude (c .before .before .before .args .norm)
 
 returns-3 : tie.Need-returns-3
-returns-3 c = past-power binary64 (c .before .before .magnitude .result) (plain (c .before .before)) (held (c .before .before)) (over (c .before)) (c .if2 .left) ∙ ap halvings (c .before .before .magnitude .ensures)
+returns-3 c = past-power binary64 (c .before .before .magnitude .result) (plain (c .before .before)) (held (c .before .before)) (over (c .before)) (c .if2 .left) ∙ ap halvings (c .before .before .magnitude .ensures) ∙ halvings-magnitude (c .before .before .before .args .norm)
 
 pub halvings-of-spec : {M : Type 1} → statement M
 halvings-of-spec =

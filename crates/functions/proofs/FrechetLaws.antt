@@ -1,0 +1,136 @@
+-- What a call of frechet_expm leaves. Assumes nothing.
+use Prim.Native.Nat.{ℕ, _+_, _*_, _<_, _≤_}
+use native.Mathlib.Nat.{add-mul, zero-add}
+use mathlib.Core.Path.{_≡_, refl, sym, ap, _∙_}
+use mathlib.Core.Bool.{true}
+use mathlib.Core.List.{List}
+use native.Mathlib.Omega.{arith}
+use lib.Dec.{ltb}
+use lib.ListN.{length, take}
+use lib.Seq.{length-take-le, getD-take}
+use lib.Ieee.{Float, Format, nan}
+use Rattle.arithmetic.specs.Matrix.{item, part}
+use Rattle.arithmetic.specs.Workspace.{slot, store, cleared, Only, Room}
+use Rattle.arithmetic.specs.Result.{Result, refused, done, outcome, exit, workspace}
+use Rattle.arithmetic.specs.Questions.{Call, Profile, asked, answer}
+use Rattle.arithmetic.specs.Answers.{numbered, reported, found}
+use Rattle.arithmetic.specs.Outputs.{Both, TwoOutputsIn, Replaced}
+use Rattle.arithmetic.specs.declared.answer.Outcome.{Outcome}
+use Rattle.arithmetic.specs.declared.answer.Outcome.the-variants.{Done, Refused}
+use Rattle.arithmetic.specs.declared.answer.Question.{Question}
+use Rattle.arithmetic.specs.declared.answer.Question.the-variants.{Passed, No}
+use Rattle.arithmetic.specs.declared.answer.Refusal.{Refusal}
+use Rattle.arithmetic.proofs.MatrixLaws.{square-le, length-grid, row-end, tab-is}
+use Rattle.arithmetic.proofs.Slots.{slot-store, only-store, only-trans, only-more, cleared-only}
+use Rattle.arithmetic.proofs.States.{among, member-among}
+use Rattle.arithmetic.proofs.QuestionLaws.{as-refused}
+use Rattle.arithmetic.proofs.AnswerLaws.{answer-passed, outcome-no, exit-no, workspace-no}
+use Rattle.arithmetic.proofs.OutputLaws.{Late, late-workspace}
+use Rattle.functions.specs.Exponential.{block, quarter}
+use Rattle.functions.specs.Powers.{expM}
+use Rattle.functions.specs.Derivatives.{frechetExpM, blockQuarters}
+use Rattle.functions.specs.Frechet.{Quartered, Written}
+use Rattle.functions.proofs.ExponentialLaws.{late-expM}
+
+length-block : (n : ℕ) (a e : List Float) → length (block n a e) ≡ (n + n) * (n + n)
+unfolding block
+length-block n a e = length-grid (n + n) (n + n) _
+
+-- the quarters report what the block's exponential does
+pub quarters-outcome : (n : ℕ) (x : Result (List Float)) → outcome (blockQuarters n x) ≡ outcome x
+unfolding blockQuarters outcome
+quarters-outcome n (refused k i j) = refl
+quarters-outcome n (done s x) = refl
+
+pub late-frechetExpM : (f : Format) (n : ℕ) (a e : List Float) → Late (frechetExpM f n a e)
+unfolding frechetExpM blockQuarters
+late-frechetExpM f n a e = go (expM f (n + n) (block n a e)) (late-expM f (n + n) (block n a e))
+  where
+    go : (x : Result (List Float)) → Late x → Late (blockQuarters n x)
+    go (refused k i j) l = l
+    go (done s x) l = tt
+
+-- ---- the rows of the block are within it, and its quarters within the workspace
+
+pub block-rows : (n i : ℕ) → n ≤ 8 → i < n → (i * (n + n) + (n + n) ≤ n * (n + n)) × (n * (n + n) + n * (n + n) ≤ 256)
+block-rows n i small h = (row-end i n (n + n) h, omega (arith, add-mul n n (n + n), square-le (n + n) (omega arith)))
+
+pub slot-front : (n : ℕ) (w : List Float) → n * n ≤ length w → take (n * n) w ≡ slot n w 0
+unfolding slot part
+slot-front n w h = tab-is nan (n * n) (λ i. item w (256 * 0 + i)) (take (n * n) w) (length-take-le (n * n) w h) (λ i l. getD-take (n * n) w i nan l ∙ ap (item w) (sym (zero-add i)))
+
+-- ---- the ends of write_quarters
+
+pub quartered-done : (n : ℕ) (given : Outcome) (w first first′ second second′ : List Float) (s : ℕ) → given ≡ Done s → first′ ≡ quarter n 0 (slot (n + n) w 0) → second′ ≡ quarter n n (slot (n + n) w 0)
+    → Quartered n given (Done s) w first first′ second second′
+unfolding exit
+quartered-done n given w first first′ second second′ s e p q = rw e (record { outcome = refl; value = p; derivative = q })
+
+pub quartered-none : (n : ℕ) (given : Outcome) (w first second : List Float) (y : Refusal) → given ≡ Refused y → Quartered n given (Refused y) w first first second second
+unfolding exit
+quartered-none n given w first second y e =
+    let (i, j, l, k) = as-refused y in
+    rw e (record {
+      outcome = refl;
+      value = sym (ap (λ (z : Result (Unit {0})). exit (λ _. quarter n 0 (slot (n + n) w 0)) z first) k);
+      derivative = sym (ap (λ (z : Result (Unit {0})). exit (λ _. quarter n n (slot (n + n) w 0)) z second) k);
+    })
+
+-- ---- all the steps
+
+-- the block is filled, its exponential takes its place, and the quarters are written
+pub frechet-written : (f : Format) (n : ℕ) (ss : List ℕ) (a e first first′ second second′ w w1 w2 : List Float) (given o : Outcome) → Room (n + n) w → among (λ s. ltb s 32) ss ≡ true
+    → w1 ≡ store w 0 (block n a e) → Replaced ss (n + n) (expM f (n + n) (slot (n + n) w1 0)) given w1 w2 → Quartered n given o w2 first first′ second second′
+    → Written (frechetExpM f n a e) o first first′ second second′ w w2
+unfolding frechetExpM blockQuarters outcome exit
+frechet-written f n ss a e first first′ second second′ w w1 w2 given o r m e1 R Q =
+    go (expM f (n + n) (block n a e)) (R′ .outcome) (R′ .result)
+  where
+    few : (n + n) * (n + n) ≤ 256
+    few = square-le (n + n) (r .order)
+
+    b : slot (n + n) w1 0 ≡ block n a e
+    b = ap (λ (z : List Float). slot (n + n) z 0) e1 ∙ slot-store (n + n) w 0 (block n a e) (length-block n a e) (omega (arith, few, r .space))
+
+    R′ : Replaced ss (n + n) (expM f (n + n) (block n a e)) given w1 w2
+    R′ = rw b at R
+
+    within : Only (λ s. ltb s 32) w w2
+    within = only-trans (rw e1 (only-store (λ s. ltb s 32) w 0 (block n a e) refl (omega (arith, few, length-block n a e)))) (only-more (member-among (λ s. ltb s 32) ss m) (R .only))
+
+    go : (x : Result (List Float)) → reported given ≡ outcome x → slot (n + n) w2 0 ≡ exit (λ v. v) x (slot (n + n) w2 0) → Written (blockQuarters n x) o first first′ second second′ w w2
+    go (refused k i j) p q = record {
+      outcome = Q .outcome ∙ p;
+      value = Q .value ∙ ap (λ (z : Result (Unit {0})). exit (λ _. quarter n 0 (slot (n + n) w2 0)) z first) p;
+      derivative = Q .derivative ∙ ap (λ (z : Result (Unit {0})). exit (λ _. quarter n n (slot (n + n) w2 0)) z second) p;
+      only = within;
+    }
+    go (done s x) p q = record {
+      outcome = Q .outcome ∙ p;
+      value = Q .value ∙ ap (λ (z : Result (Unit {0})). exit (λ _. quarter n 0 (slot (n + n) w2 0)) z first) p ∙ ap (quarter n 0) q;
+      derivative = Q .derivative ∙ ap (λ (z : Result (Unit {0})). exit (λ _. quarter n n (slot (n + n) w2 0)) z second) p ∙ ap (quarter n n) q;
+      only = within;
+    }
+
+-- ---- a call with two outputs
+
+module _ (p : Profile) (c : Call) (q : Question) (h : found q ≡ asked p c) (o : Outcome) (x : Result Both) (first second w : List Float) where
+  -- a question refuses: outputs and workspace are as they were lent
+  pub two-refused : (y : Refusal) → q ≡ No y → reported o ≡ numbered y → TwoOutputsIn (answer p c x) o first first second second w w
+  two-refused y e k = record {
+    outcome = k ∙ sym (outcome-no p c x q h y e);
+    value = sym (exit-no p c x q h y e (λ (b : Both). b .value) first);
+    derivative = sym (exit-no p c x q h y e (λ (b : Both). b .derivative) second);
+    workspace = sym (workspace-no p c x q h y e w);
+  }
+
+  -- none does: the outputs are written and the workspace is cleared
+  pub two-written : (first′ second′ w1 w2 : List Float) → q ≡ Passed → Late x → 8192 ≤ length w → Written x o first first′ second second′ w w1 → w2 ≡ cleared w1
+      → TwoOutputsIn (answer p c x) o first first′ second second′ w w2
+  two-written first′ second′ w1 w2 e l room W v =
+      rw (answer-passed p c x q h e) (record {
+        outcome = W .outcome;
+        value = W .value;
+        derivative = W .derivative;
+        workspace = v ∙ cleared-only w w1 room (W .only) ∙ sym (late-workspace x w l);
+      })

@@ -1,0 +1,47 @@
+// The exponential of a matrix.
+ghost use mathlib.Core.List.{[], _∷_};
+ghost use lib.ListN.{length};
+ghost use lib.Ieee.{binary64};
+ghost use Rattle.arithmetic.specs.Workspace.{Room, slot};
+ghost use Rattle.arithmetic.specs.Outputs.{OneOutputIn, Replaced};
+ghost use Rattle.functions.specs.Powers.{expM};
+ghost use Rattle.functions.specs.Calls.{expm as expmOf};
+use crate::exponential::exponential_at;
+use crate::halvings::halvings_for;
+use arithmetic::answer::Answer;
+use arithmetic::answer::Outcome;
+use arithmetic::answer::Question;
+use arithmetic::answer::refused;
+use arithmetic::norm::norm_1;
+use arithmetic::output::deliver;
+use arithmetic::question::ask_expm;
+use arithmetic::workspace::copy_in;
+
+// The exponential of the matrix of order n in slot 0 takes its place.
+pub fn expm_in(w: &mut [f64], n: usize) -> Outcome
+    requires { ⌜ Room n (now w) ⌝ }
+    ensures { λ r. ⌜ Replaced (0 ∷ 1 ∷ 2 ∷ 3 ∷ 4 ∷ 5 ∷ []) n (expM binary64 n (slot n (now (w .entry)) 0)) r (now (w .entry)) (now (w .exit)) ⌝ }
+{
+    let outcome = halvings_for(norm_1(w, 0, n));
+    match outcome {
+        Outcome::Done { halvings } => {
+            exponential_at(w, n, halvings);
+            Outcome::Done { halvings }
+        }
+        Outcome::Refused(why) => Outcome::Refused(why),
+    }
+}
+
+// The exponential of the matrix a is written to out.
+pub fn expm(rows: usize, columns: usize, a: &[f64], out: &mut [f64], w: &mut [f64]) -> Answer
+    ensures { λ r. ⌜ OneOutputIn (expmOf binary64 rows columns (now (a .entry)) (length (now (out .entry))) (length (now (w .entry)))) (r .outcome) (now (out .entry)) (now (out .exit)) (now (w .entry)) (now (w .exit)) ⌝ }
+{
+    match ask_expm(rows, columns, a, out.len(), w.len()) {
+        Question::No(why) => refused(why),
+        Question::Passed => {
+            copy_in(w, 0, a);
+            let outcome = expm_in(w, rows);
+            deliver(outcome, out, w)
+        }
+    }
+}
