@@ -86,7 +86,8 @@ pub fn sqrtm_in(w: &mut [f64], n: usize) -> Outcome
         return Outcome::Done { halvings: 0 };
     }
     identity(w, 1, n);
-    if answers(root_passes(w, n)) {
+    let pass = root_passes(w, n);
+    if answers(pass) {
         Outcome::Done { halvings: 0 }
     } else {
         Outcome::Refused(Refusal::NotConverged)

@@ -9,6 +9,7 @@ ghost use Rattle.arithmetic.specs.Matrix.{tab, grid, at, put};
 ghost use Rattle.functions.specs.Kronecker.{blockRow};
 ghost use Rattle.functions.specs.Derivatives.{sylvesterEntry, sylvesterMatrix};
 ghost use Rattle.roots.specs.Frechet.{addedWhere};
+use arithmetic::matrix::entry;
 
 // x, with v added to it where i is j.
 fn add_where(x: f64, i: usize, j: usize, v: f64) -> f64
@@ -41,14 +42,13 @@ fn sylvester_part(
 
 // Writes to y row r of the blocks (p, 0), (p, 1) and so on.
 fn sylvester_row(out: &mut [f64], y: usize, n: usize, s: &[f64], p: usize, r: usize)
-    requires { ⌜ (y + n * n ≤ length (now out)) × (p * n + n ≤ length (now s)) × (r * n + n ≤ length (now s)) ⌝ }
+    requires { ⌜ (y + n * n ≤ length (now out)) × (p < n) × (r * n + n ≤ length (now s)) × (length (now s) ≡ n * n) ⌝ }
     ensures { λ _. ⌜ now (out .exit) ≡ put (now (out .entry)) y (tab (n * n) (blockRow n (sylvesterEntry binary64 n (now (s .entry))) p r)) ⌝ }
 {
-    let x = p * n;
     let mut z = y;
     let mut q = 0;
     while q < n {
-        sylvester_part(out, z, p, q, s[x + q], n, s, r);
+        sylvester_part(out, z, p, q, entry(s, n, n, p, q), n, s, r);
         z += n;
         q += 1;
     }
@@ -56,7 +56,7 @@ fn sylvester_row(out: &mut [f64], y: usize, n: usize, s: &[f64], p: usize, r: us
 
 // Writes to y the n rows of the blocks (p, 0), (p, 1) and so on.
 fn sylvester_rows(out: &mut [f64], y: usize, n: usize, s: &[f64], p: usize)
-    requires { ⌜ (n * n ≤ 64) × (y + n * (n * n) ≤ length (now out)) × (p * n + n ≤ length (now s)) × (length (now s) ≡ n * n) ⌝ }
+    requires { ⌜ (n * n ≤ 64) × (y + n * (n * n) ≤ length (now out)) × (p < n) × (length (now s) ≡ n * n) ⌝ }
     ensures { λ _. ⌜ now (out .exit) ≡ put (now (out .entry)) y (grid n (n * n) (blockRow n (sylvesterEntry binary64 n (now (s .entry))) p)) ⌝ }
 {
     let width = n * n;

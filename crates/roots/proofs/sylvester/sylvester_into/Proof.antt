@@ -3,7 +3,6 @@ use Prim.Native.Nat.{_*_, _-_, _<_, _≤_}
 use native.Mathlib.Nat.{zero-mul, mul-le-mul}
 use mathlib.Core.Path.{_≡_}
 use lib.Ieee.{binary64}
-use Rattle.arithmetic.proofs.MatrixLaws.{row-end}
 use Rattle.functions.specs.Kronecker.{blockRow}
 use Rattle.functions.specs.Derivatives.{sylvesterEntry, sylvesterMatrix}
 use Rattle.functions.proofs.KroneckerLaws.{Filled, allRows, filled-none, filled-blocks, filled-all, rows-end}
@@ -32,7 +31,7 @@ sylvester-rows-requires c κs =
     let l = c .before .before .loop in
     let a = c .before .before .before .before .before .args in
     let less : l .p < a .n = omega arith in
-    omega (arith, rows-end (l .p) (a .n) (a .n) (a .n * a .n) less, row-end (l .p) (a .n) (a .n) less)
+    omega (arith, rows-end (l .p) (a .n) (a .n) (a .n * a .n) less)
 
 add-y : tie.Need-add-y Inv-loop μ-loop
 add-y c =

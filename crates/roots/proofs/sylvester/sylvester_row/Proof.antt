@@ -1,36 +1,29 @@
 -- `sylvester_row` meets its contract. The invariant: the first q parts of the row are written, and nothing else is changed. Assumes nothing.
 use Prim.Native.Nat.{_-_, _<_, _≤_}
 use mathlib.Core.Path.{_≡_, ap, _∙_}
-use lib.Ieee.{binary64}
-use Rattle.arithmetic.specs.Matrix.{at, put}
+use lib.Ieee.{Float, binary64}
+use Rattle.arithmetic.specs.Float.{+zero}
+use Rattle.arithmetic.specs.Matrix.{at, put, tab}
 use Rattle.arithmetic.proofs.MatrixLaws.{row-end}
 use Rattle.functions.specs.Derivatives.{sylvesterEntry}
 use Rattle.functions.proofs.KroneckerLaws.{Filled, filled-none, filled-more, row-parts}
+use Rattle.roots.specs.Frechet.{addedWhere}
 use native.Mathlib.Omega.{arith}
 use borrow.Author.Needs.{needs}
 use Rattle.roots.proofs.sylvester.sylvester_row.Statement.{statement}
 use Rattle.roots.proofs.sylvester.sylvester_row.Tie as tie
 
 abbrev Inv-loop : tie.InvT-loop
-Inv-loop out₀ y n s p r x z₀ q₀ out z q = (q ≤ n) × Filled out₀ y q n (λ q. sylvesterEntry binary64 n s p q r) z out
+Inv-loop out₀ y n s p r z₀ q₀ out z q = (q ≤ n) × Filled out₀ y q n (λ q. sylvesterEntry binary64 n s p q r) z out
 
 abbrev μ-loop : tie.MeasureT-loop
-μ-loop out₀ y n s p r x z₀ q₀ out z q = n - q
-
-mul-x : tie.Need-mul-x Inv-loop μ-loop
-mul-x c = search needs
+μ-loop out₀ y n s p r z₀ q₀ out z q = n - q
 
 loop-holds : tie.Need-loop-holds Inv-loop μ-loop
 loop-holds c = (omega arith, filled-none _ _ _ _)
 
-add-sylvester-part : tie.Need-add-sylvester-part Inv-loop μ-loop
-add-sylvester-part c = search needs
-
-mul-sylvester-part : tie.Need-mul-sylvester-part Inv-loop μ-loop
-mul-sylvester-part c = search needs
-
-shared-slice-read-sylvester-part : tie.Need-shared-slice-read-sylvester-part Inv-loop μ-loop
-shared-slice-read-sylvester-part c = search needs
+entry-requires : tie.Need-entry-requires Inv-loop μ-loop
+entry-requires c κs = search needs
 
 sylvester-part-requires : tie.Need-sylvester-part-requires Inv-loop μ-loop
 sylvester-part-requires c κs =
@@ -53,10 +46,13 @@ loop-less : tie.Need-loop-less Inv-loop μ-loop
 loop-less c = search needs
 
 loop-again : tie.Need-loop-again Inv-loop μ-loop
-unfolding sylvesterEntry at
+unfolding sylvesterEntry
 loop-again c =
+    let l = c .before .before .before .before .before .before .loop in
     let a = c .before .before .before .before .before .before .before .before .before .args in
-    (omega arith, filled-more _ _ _ _ (λ q. sylvesterEntry binary64 (a .n) (a .s .now) (a .p) q (a .r)) _ _ _ (c .before .before .before .before .before .before .loop .inv .1) (c .before .before .sylvester-part .ensures))
+    let e = c .before .before .sylvester-part .ensures
+    ∙ ap (λ (v : Float). put (l .out) (l .z) (tab (a .n) (λ x. addedWhere binary64 (addedWhere binary64 +zero (a .p) (l .q) (at (a .n) (a .s .now) (a .r) x)) (a .r) x v))) (c .before .before .before .entry .ensures) in
+    (omega arith, filled-more _ _ _ _ (λ q. sylvesterEntry binary64 (a .n) (a .s .now) (a .p) q (a .r)) _ _ _ (l .inv .1) e)
 
 same-length : tie.Need-same-length Inv-loop μ-loop
 same-length c = search needs
@@ -74,11 +70,8 @@ sylvester-row-spec =
     (tie.spec
     Inv-loop
     μ-loop
-    mul-x
     loop-holds
-    add-sylvester-part
-    mul-sylvester-part
-    shared-slice-read-sylvester-part
+    entry-requires
     sylvester-part-requires
     add-z
     add-q
