@@ -5,3 +5,6 @@ pub mod NewtonLaws
 pub mod SquareRootLaws
 pub mod LogarithmLaws
 pub mod CallLaws
+pub mod TwoCalls
+pub mod LogDerivativeLaws
+pub mod RootDerivativeLaws

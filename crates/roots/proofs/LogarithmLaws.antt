@@ -1,5 +1,5 @@
 -- Laws of the logarithm in a workspace: the roots, the series, and both. Assumes nothing.
-use Prim.Native.Nat.{ℕ, suc, _+_, _*_, _%_, _≤_, _<_}
+use Prim.Native.Nat.{ℕ, suc, _+_, _≤_, _<_}
 use native.Mathlib.Omega.{arith}
 use native.Mathlib.Numerals.{add-one}
 use mathlib.Core.Path.{_≡_, refl, sym, ap, _∙_}
@@ -17,8 +17,8 @@ use Rattle.arithmetic.specs.declared.answer.Refusal.the-variants.{NotConverged}
 use Rattle.arithmetic.proofs.MatrixLaws.{square-le}
 use Rattle.arithmetic.proofs.ProductLaws.{length-scaleM}
 use Rattle.arithmetic.proofs.Slots.{only-refl, only-trans, only-more, slot-only, length-slot}
-use Rattle.arithmetic.proofs.States.{start, step-mult, step-copy, step-copy-in, step-call, step-times, step-add, step-zero, step-scale, step-minus-identity, held-at, member-among}
-use Rattle.functions.specs.Iterate.{Step, running, stopped, failed, after, verdict, ended}
+use Rattle.arithmetic.proofs.States.{start, step-mult, step-copy, step-copy-in, step-call, step-times, step-add, step-zero, step-minus-identity, held-at, member-among}
+use Rattle.functions.specs.Iterate.{Step, running, stopped, after, verdict, ended}
 use Rattle.functions.specs.Roots.{newtonRoot}
 use Rattle.functions.specs.Logarithm.{isFar, Rooted, rooted, rootingStep, rooting, Series, seriesStep, seriesCoefficient, series, logarithm}
 use Rattle.roots.specs.Passes.{asStep, tested, answered, OnePass, Passes, NewtonRoot}

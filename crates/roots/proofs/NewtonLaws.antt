@@ -1,10 +1,10 @@
 -- Laws of a pass of Newton's iteration in a workspace. Assumes nothing.
-use Prim.Native.Nat.{ℕ, _*_, _≤_}
+use Prim.Native.Nat.{ℕ}
 use native.Mathlib.Omega.{arith}
 use mathlib.Core.Path.{_≡_, refl, sym, ap, _∙_}
 use mathlib.Core.Bool.{Bool, true, false, cond}
 use mathlib.Core.List.{List, [], _∷_}
-use mathlib.Core.Option.{Option, none, some}
+use mathlib.Core.Option.{none, some}
 use lib.IntN.{pos}
 use lib.Ieee.{Float, Format, binary64, lt, div, ofInt, ofBits}
 use Rattle.arithmetic.specs.Float.{one, epsilon}
@@ -18,7 +18,7 @@ use Rattle.arithmetic.proofs.States.{start, step-mean, step-copy, step-call, st
 use Rattle.lu.specs.declared.LuOutcome.{LuOutcome}
 use Rattle.lu.specs.declared.LuOutcome.the-variants.{Factored, Singular}
 use Rattle.lu.specs.Solve.{division, whereFactored}
-use Rattle.functions.specs.Iterate.{Step, failed, after, verdict}
+use Rattle.functions.specs.Iterate.{after, verdict}
 use Rattle.functions.specs.Roots.{rootTolerance, newtonNext, newtonStep, newtonScale, newtonStart, newton}
 use Rattle.roots.specs.Passes.{asStep, tested, OnePass, Passes, Quotient, NewtonMean, NewtonRoot}
 use Rattle.roots.specs.declared.pass.Pass.{Pass}

@@ -1,8 +1,6 @@
 // The square root by the iteration of Denman and Beavers, in a workspace: y stands in slot 0 and z in slot 1. y goes to the root and z to its inverse.
 // Slots 2 to 5 are scratch.
-ghost use mathlib.Core.Path.{_≡_};
 ghost use mathlib.Core.List.{[], _∷_};
-ghost use Prim.Native.Nat.{_≤_};
 ghost use lib.Ieee.{binary64};
 ghost use Rattle.arithmetic.specs.Workspace.{Room, slot};
 ghost use Rattle.arithmetic.specs.Outputs.{Replaced};

@@ -1,9 +1,7 @@
 -- `logm_in` meets its contract: a law for each end of the roots. Assumes nothing.
-use mathlib.Core.Path.{_≡_, ap, sym, subst}
-use Prim.Native.Nat.{ℕ, _≤_}
+use mathlib.Core.Path.{ap}
 use lib.Ieee.{binary64}
 use Rattle.roots.specs.Rooting.{countOf}
-use Rattle.roots.specs.declared.logarithm.Roots.{Roots}
 use Rattle.roots.proofs.LogarithmLaws.{logarithm-done, logarithm-refused}
 use native.Mathlib.Omega.{arith}
 use borrow.Author.Needs.{needs}

@@ -1,7 +1,6 @@
 -- `near_logarithm` meets its contract: a step for each call. Assumes nothing.
 use lib.Ieee.{binary64}
 use Rattle.roots.proofs.LogarithmLaws.{near-steps}
-use native.Mathlib.Omega.{arith}
 use borrow.Author.Needs.{needs}
 use Rattle.roots.proofs.logarithm.near_logarithm.Statement.{statement}
 use Rattle.roots.proofs.logarithm.near_logarithm.Tie as tie
