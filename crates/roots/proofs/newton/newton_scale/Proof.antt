@@ -14,10 +14,20 @@ sqrt-requires : tie.Need-sqrt-requires
 sqrt-requires c κs = search needs
 
 returns : tie.Need-returns
-returns c = scale-above (c .before .before .before .before .before .args .n) (c .before .before .before .before .before .args .w .now) (c .before .before .before .trace .result) (c .before .before .of-small .result) (c .before .sqrt .result) (c .before .before .before .trace .ensures) (c .before .before .of-small .ensures) (c .before .sqrt .ensures) (c .if1 .taken)
+returns c =
+    let s = c .before .sqrt in
+    let d = c .before .before .of-small in
+    let t = c .before .before .before .trace in
+    let a = c .before .before .before .before .before .args in
+    scale-above (a .n) (a .w .now) (t .result) (d .result) (s .result) (t .ensures) (d .ensures) (s .ensures) (c .if1 .taken)
 
 returns-2 : tie.Need-returns-2
-returns-2 c = scale-one (c .before .before .before .before .before .args .n) (c .before .before .before .before .before .args .w .now) (c .before .before .before .trace .result) (c .before .before .of-small .result) (c .before .sqrt .result) (c .before .before .before .trace .ensures) (c .before .before .of-small .ensures) (c .before .sqrt .ensures) (c .if1 .left)
+returns-2 c =
+    let s = c .before .sqrt in
+    let d = c .before .before .of-small in
+    let t = c .before .before .before .trace in
+    let a = c .before .before .before .before .before .args in
+    scale-one (a .n) (a .w .now) (t .result) (d .result) (s .result) (t .ensures) (d .ensures) (s .ensures) (c .if1 .left)
 
 pub newton-scale-spec : {M : Type 1} → statement M
 newton-scale-spec =
