@@ -9,7 +9,7 @@ use lib.ListN.{length}
 use lib.Ieee.{Float}
 use borrow.Author.Tests.{lt-leb}
 use Rattle.arithmetic.specs.Matrix.{part}
-use Rattle.arithmetic.specs.Workspace.{slot, store, cleared, member, Only}
+use Rattle.arithmetic.specs.Workspace.{slot, store, cleared, Only}
 use Rattle.arithmetic.specs.Result.{Result, refused, done, _>>=_, outcome, exit, workspace}
 use Rattle.arithmetic.specs.Questions.{Call, Profile, asked, answer}
 use Rattle.arithmetic.specs.Answers.{numbered, reported, found}
@@ -88,10 +88,6 @@ delivered (done s x) given o v before after w w2 w3 l p r D e = record {
   output = D .output ∙ ap (λ (z : Result (Unit {0})). exit (λ _. v) z before) p ∙ r;
   workspace = D .workspace ∙ e ∙ sym (late-workspace {A = List Float} (done s x) w l);
 }
-
--- what works in slots 0 to 31 is forgotten once they are cleared
-pub cleared-among : (ss : List ℕ) (w w′ : List Float) → 8192 ≤ length w → among (λ s. ltb s 32) ss ≡ true → Only (member ss) w w′ → cleared w′ ≡ cleared w
-cleared-among ss w w′ room m o = cleared-only w w′ room (only-more (member-among (λ s. ltb s 32) ss m) o)
 
 module _ (p : Profile) (c : Call) (q : Question) (h : found q ≡ asked p c) (o : Outcome) (before w : List Float) where
   -- a question refuses: output and workspace are as they were lent

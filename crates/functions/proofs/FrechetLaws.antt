@@ -13,18 +13,18 @@ use Rattle.arithmetic.specs.Matrix.{item, part}
 use Rattle.arithmetic.specs.Workspace.{slot, store, cleared, Only, Room}
 use Rattle.arithmetic.specs.Result.{Result, refused, done, outcome, exit, workspace}
 use Rattle.arithmetic.specs.Questions.{Call, Profile, asked, answer}
-use Rattle.arithmetic.specs.Answers.{numbered, reported, found}
+use Rattle.arithmetic.specs.Answers.{reported, found}
 use Rattle.arithmetic.specs.Outputs.{Both, TwoOutputsIn, Replaced}
 use Rattle.arithmetic.specs.declared.answer.Outcome.{Outcome}
 use Rattle.arithmetic.specs.declared.answer.Outcome.the-variants.{Done, Refused}
 use Rattle.arithmetic.specs.declared.answer.Question.{Question}
-use Rattle.arithmetic.specs.declared.answer.Question.the-variants.{Passed, No}
+use Rattle.arithmetic.specs.declared.answer.Question.the-variants.{Passed}
 use Rattle.arithmetic.specs.declared.answer.Refusal.{Refusal}
 use Rattle.arithmetic.proofs.MatrixLaws.{square-le, length-grid, row-end, tab-is}
 use Rattle.arithmetic.proofs.Slots.{slot-store, only-store, only-trans, only-more, cleared-only}
 use Rattle.arithmetic.proofs.States.{among, member-among}
 use Rattle.arithmetic.proofs.QuestionLaws.{as-refused}
-use Rattle.arithmetic.proofs.AnswerLaws.{answer-passed, outcome-no, exit-no, workspace-no}
+use Rattle.arithmetic.proofs.AnswerLaws.{answer-passed}
 use Rattle.arithmetic.proofs.OutputLaws.{Late, late-workspace}
 use Rattle.functions.specs.Exponential.{block, quarter}
 use Rattle.functions.specs.Powers.{expM}
@@ -112,19 +112,10 @@ frechet-written f n ss a e first first′ second second′ w w1 w2 given o r m e
       only = within;
     }
 
--- ---- a call with two outputs
+-- ---- the call
 
 module _ (p : Profile) (c : Call) (q : Question) (h : found q ≡ asked p c) (o : Outcome) (x : Result Both) (first second w : List Float) where
-  -- a question refuses: outputs and workspace are as they were lent
-  pub two-refused : (y : Refusal) → q ≡ No y → reported o ≡ numbered y → TwoOutputsIn (answer p c x) o first first second second w w
-  two-refused y e k = record {
-    outcome = k ∙ sym (outcome-no p c x q h y e);
-    value = sym (exit-no p c x q h y e (λ (b : Both). b .value) first);
-    derivative = sym (exit-no p c x q h y e (λ (b : Both). b .derivative) second);
-    workspace = sym (workspace-no p c x q h y e w);
-  }
-
-  -- none does: the outputs are written and the workspace is cleared
+  -- no question refuses: the outputs are written and the workspace is cleared
   pub two-written : (first′ second′ w1 w2 : List Float) → q ≡ Passed → Late x → 8192 ≤ length w → Written x o first first′ second second′ w w1 → w2 ≡ cleared w1
       → TwoOutputsIn (answer p c x) o first first′ second second′ w w2
   two-written first′ second′ w1 w2 e l room W v =

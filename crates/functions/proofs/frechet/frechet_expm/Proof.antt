@@ -7,9 +7,10 @@ use lib.ListN.{length}
 use lib.Ieee.{binary64}
 use Rattle.arithmetic.specs.Questions.{binary, anywhere, ofFrechetExpm}
 use Rattle.arithmetic.proofs.QuestionLaws.{accepted-directed}
+use Rattle.arithmetic.proofs.BothLaws.{two-refused}
 use Rattle.functions.specs.Derivatives.{frechetExpM}
 use Rattle.functions.specs.Calls.{frechetExpm}
-use Rattle.functions.proofs.FrechetLaws.{two-refused, two-written, late-frechetExpM}
+use Rattle.functions.proofs.FrechetLaws.{two-written, late-frechetExpM}
 use Rattle.functions.proofs.FirstOutput.{written-alone, refused-alone, counted}
 use borrow.Author.Needs.{needs}
 use Rattle.functions.proofs.frechet.frechet_expm.Statement.{statement}
@@ -51,7 +52,7 @@ returns c =
     let asked = c .before .before .before .before .ask-frechet-expm in
     let call = binary (a .rows) (a .columns) (now (a .a)) (a .height) (a .width) (now (a .e)) (length (now (a .first)) ∷ length (now (a .second)) ∷ []) (length (now (a .w))) in
     let k = c .refused .ensures in (
-      two-refused ofFrechetExpm call (asked .result) (asked .ensures) (c .refused .result .outcome) (frechetExpM binary64 (a .rows) (now (a .a)) (now (a .e))) (now (a .first)) (now (a .second)) (now (a .w)) _ (c .before .before .why .given .1) k,
+      two-refused ofFrechetExpm call (asked .result) (asked .ensures) (c .refused .result .outcome) (now (a .first)) (now (a .second)) (now (a .w)) (frechetExpM binary64 (a .rows) (now (a .a)) (now (a .e))) _ (c .before .before .why .given .1) k,
       refused-alone binary64 (a .rows) (now (a .a)) (now (a .e)) (now (a .first)) (c .refused .result .outcome) (c .before .before .why .given .0 .0) k,
     )
 
