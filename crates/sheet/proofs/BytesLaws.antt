@@ -40,3 +40,7 @@ module _ (f : Format) (s : List ℕ) (p : ℕ) (m₀ m : List Float) (i : ℕ) w
   pub read-all : m ≡ put m₀ 0 (tab i (entryAt f s p)) → i ≡ length m₀ → m ≡ numbersAt f s p (length m₀)
   unfolding numbersAt
   read-all e h = e ∙ ap (λ (k : ℕ). put m₀ 0 (tab k (entryAt f s p))) h ∙ put-all m₀ (tab (length m₀) (entryAt f s p)) (length-tab (length m₀) (entryAt f s p))
+
+pub length-numbersAt : (f : Format) (s : List ℕ) (p k : ℕ) → length (numbersAt f s p k) ≡ k
+unfolding numbersAt
+length-numbersAt f s p k = length-tab k (entryAt f s p)

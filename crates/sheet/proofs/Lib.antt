@@ -4,3 +4,6 @@ pub mod TextLaws
 pub mod BytesLaws
 pub mod ParseLaws
 pub mod LineLaws
+pub mod FewLaws
+pub mod TaskLaws
+pub mod SheetLaws

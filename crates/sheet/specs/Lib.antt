@@ -2,3 +2,4 @@ pub mod Bytes
 pub mod Text
 pub mod Wrote
 pub mod Parse
+pub mod Tasks

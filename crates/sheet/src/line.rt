@@ -65,7 +65,8 @@ fn put_done(
     put_byte(out, g, b'\n')
 }
 
-fn coded(number: usize, first: usize, second: usize) -> Code
+// A refusal with this number and these details.
+pub fn coded(number: usize, first: usize, second: usize) -> Code
     ensures { λ r. ⌜ (r .number ≡ number) × (r .first ≡ first) × (r .second ≡ second) ⌝ }
 {
     Code {

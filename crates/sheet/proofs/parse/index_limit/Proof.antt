@@ -1,5 +1,4 @@
 -- `index_limit` meets its contract. Assumes nothing.
-use Prim.Native.Nat.{_-_}
 use borrow.Author.Tests.{le-leb, lt-leb, eq-eqb, ne-eqb}
 use Rattle.sheet.proofs.parse.index_limit.Statement.{statement}
 use Rattle.sheet.proofs.parse.index_limit.Tie as tie
