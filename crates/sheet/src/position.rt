@@ -1,6 +1,6 @@
 // Where a direction or an exponent begins on a sheet.
 ghost use mathlib.Core.Path.{_≡_};
-ghost use Prim.Native.Nat.{_<_, _≤_};
+ghost use Prim.Native.Nat.{_≤_, _<_};
 ghost use Rattle.sheet.specs.Tasks.{directionAt, exponentAt};
 
 // Direction i of a sheet of order n.

@@ -1,5 +1,4 @@
 -- `parse_end` meets its contract. Assumes nothing.
-use Prim.Native.Nat.{_-_}
 use lib.ListN.{length}
 use denote.Ref.{now}
 use borrow.Author.Tests.{le-leb, lt-leb}

@@ -1,5 +1,4 @@
 -- `put_number` meets its contract. Assumes nothing.
-use Prim.Native.Nat.{_-_}
 use borrow.Author.Needs.{needs}
 use Rattle.sheet.specs.Text.{numberText}
 use Rattle.sheet.proofs.writing.put_number.Statement.{statement}
