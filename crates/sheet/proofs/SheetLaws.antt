@@ -12,7 +12,7 @@ use Rattle.sheet.specs.declared.parse.Parse.{Parse}
 use Rattle.sheet.specs.declared.parse.Parse.the-variants.{Sheet, Refused}
 use Rattle.sheet.specs.Bytes.{byteAt}
 use Rattle.sheet.specs.Text.{refusedLine, resultLine}
-use Rattle.sheet.specs.Wrote.{Wrote}
+use Rattle.sheet.specs.Wrote.{AllLines}
 use Rattle.sheet.specs.Parse.{indexLimit, parseSheet, directionsAt, exponentsAt, tasksAt, SheetIs}
 use Rattle.sheet.specs.Tasks.{taskResult, taskLines, linesOf, sheetLines, TaskReady, Entered}
 
@@ -61,7 +61,9 @@ task-ready s n d e t k z h =
 -- ---- the entry
 
 pub entered-short : (f : Format) (s out : List ℕ) → length out < 35000 → Entered f s out out 0
-entered-short f s out h = record { refused = λ l. (refl, refl); written = λ l. absurd (omega arith); within = omega arith }
+entered-short f s out h = record { refused = λ l. (refl, refl); written = λ l. absurd (omega arith); within = omega arith; short = omega arith }
 
-pub entered : (f : Format) (s out out′ : List ℕ) (r : ℕ) → 35000 ≤ length out → Wrote out 0 (sheetLines f s) out′ r → Entered f s out out′ r
-entered f s out out′ r h w = record { refused = λ l. absurd (omega arith); written = λ l. (omega (arith, w .past), w .bytes); within = omega (arith, w .past, w .fits) }
+pub entered : (f : Format) (s out out′ : List ℕ) (r : ℕ) → 35000 ≤ length out → AllLines out (sheetLines f s) out′ r → Entered f s out out′ r
+entered f s out out′ r h l =
+    let w = l .wrote in
+    record { refused = λ k. absurd (omega arith); written = λ k. (omega (arith, w .past), w .bytes); within = omega (arith, w .past, w .fits); short = l .short }

@@ -107,8 +107,10 @@ pub record TasksRoom (s : List ℕ) (q n d t : ℕ) (out : List ℕ) (a w : List
   pub space : 35000 ≤ length out
   pub workspace : length w ≡ 8192
 
--- An output of fewer than 35,000 bytes is left as it was, and 0 reported. Any other begins with the lines, and is as it was after them.
+-- An output of fewer than 35,000 bytes is left as it was, and 0 reported. Any other begins with the lines, and is as it was after them. There are never
+-- more than 35,000 bytes of lines.
 pub record Entered (f : Format) (s out out′ : List ℕ) (r : ℕ) : Type 0 where
   pub refused : length out < 35000 → (r ≡ 0) × (out′ ≡ out)
   pub written : 35000 ≤ length out → (r ≡ length (sheetLines f s)) × (out′ ≡ sheetLines f s ++ drop (length (sheetLines f s)) out)
   pub within : r ≤ length out
+  pub short : r ≤ 35000

@@ -23,6 +23,11 @@ pub record Lined (was : List ℕ) (at : ℕ) (t : List ℕ) (out : List ℕ) (en
   pub wrote : Wrote was at t out end
   pub short : end ≤ at + 2187
 
+-- all lines of a sheet, from the start of an output
+pub record AllLines (was t out : List ℕ) (end : ℕ) : Type 0 where
+  pub wrote : Wrote was 0 t out end
+  pub short : end ≤ 35000
+
 -- room for the line of a task with an outcome and two outputs
 pub record LineRoom (out : List ℕ) (at task : ℕ) (outcome : Outcome) (first second : List Float) : Type 0 where
   pub space : at + 2187 ≤ length out

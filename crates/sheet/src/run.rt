@@ -5,7 +5,7 @@ ghost use lib.ListN.{length};
 ghost use lib.Ieee.{binary64};
 ghost use Rattle.sheet.specs.Parse.{SheetIs, tasksAt};
 ghost use Rattle.sheet.specs.Tasks.{taskLines, sheetLines, TasksRoom};
-ghost use Rattle.sheet.specs.Wrote.{Wrote};
+ghost use Rattle.sheet.specs.Wrote.{AllLines};
 use crate::line::coded;
 use crate::line::put_refused;
 use crate::parse::Parse;
@@ -37,7 +37,7 @@ fn run_tasks(
 ) -> usize
     requires { ⌜ TasksRoom (now s) q n d t (now out) (now a) (now w) ⌝ }
     requires { ⌜ (length (now e) ≡ n * n) × (length (now x) ≡ n * n) × (length (now y) ≡ n * n) ⌝ }
-    ensures { λ r. ⌜ Wrote (now (out .entry)) 0 (taskLines binary64 (now (s .entry)) n d q t) (now (out .exit)) r ⌝ }
+    ensures { λ r. ⌜ AllLines (now (out .entry)) (taskLines binary64 (now (s .entry)) n d q t) (now (out .exit)) r ⌝ }
 {
     let mut at = 0;
     let mut k = 0;
@@ -65,7 +65,7 @@ fn run_in(
     requires { ⌜ SheetIs (now s) n d e t ⌝ }
     requires { ⌜ (35000 ≤ length (now out)) × (length (now w) ≡ 8192) ⌝ }
     requires { ⌜ (length (now a) ≡ n * n) × (length (now x) ≡ n * n) × (length (now y) ≡ n * n) × (length (now z) ≡ n * n) ⌝ }
-    ensures { λ r. ⌜ Wrote (now (out .entry)) 0 (taskLines binary64 (now (s .entry)) n d (tasksAt n d e + 1) t) (now (out .exit)) r ⌝ }
+    ensures { λ r. ⌜ AllLines (now (out .entry)) (taskLines binary64 (now (s .entry)) n d (tasksAt n d e + 1) t) (now (out .exit)) r ⌝ }
 {
     read_numbers(s, 1, a);
     let q = exponent_at(n, d, e) + 1;
@@ -84,7 +84,7 @@ fn run_with_room(
 ) -> usize
     requires { ⌜ SheetIs (now s) n d e t ⌝ }
     requires { ⌜ (35000 ≤ length (now out)) × (length (now w) ≡ 8192) ⌝ }
-    ensures { λ r. ⌜ Wrote (now (out .entry)) 0 (taskLines binary64 (now (s .entry)) n d (tasksAt n d e + 1) t) (now (out .exit)) r ⌝ }
+    ensures { λ r. ⌜ AllLines (now (out .entry)) (taskLines binary64 (now (s .entry)) n d (tasksAt n d e + 1) t) (now (out .exit)) r ⌝ }
 {
     let count = n * n;
     let mut a = matrix_room();
@@ -109,7 +109,7 @@ fn run_with_room(
 // The lines of a sheet.
 pub fn run(s: &[u8], out: &mut [u8], w: &mut [f64]) -> usize
     requires { ⌜ (35000 ≤ length (now out)) × (length (now w) ≡ 8192) ⌝ }
-    ensures { λ r. ⌜ Wrote (now (out .entry)) 0 (sheetLines binary64 (now (s .entry))) (now (out .exit)) r ⌝ }
+    ensures { λ r. ⌜ AllLines (now (out .entry)) (sheetLines binary64 (now (s .entry))) (now (out .exit)) r ⌝ }
 {
     match parse_sheet(s) {
         Parse::Refused(k, p) => put_refused(out, 0, 0, coded(k, p, 0)),

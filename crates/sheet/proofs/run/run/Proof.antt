@@ -1,5 +1,6 @@
 -- `run` meets its contract. Assumes nothing.
 use mathlib.Core.Path.{sym, _∙_}
+use native.Mathlib.Omega.{arith}
 use denote.Ref.{now}
 use lib.Ieee.{binary64}
 use Rattle.sheet.proofs.ParseLaws.{sheet-is}
@@ -34,7 +35,8 @@ same-length c = search needs
 returns : tie.Need-returns
 returns c =
     let parsed = c .before .before .before .before .before .before .before .before .parse-sheet in
-    rw (← lines-refused binary64 (now (c .before .before .before .before .before .before .before .before .before .before .before .before .args .s)) (parsed .result) _ _ _ _ _ (parsed .ensures) (c .before .before .before .before .before .before .k .given .1) (c .before .before .before .coded .ensures)) (c .before .before .put-refused .ensures .0)
+    let line = c .before .before .put-refused .ensures in
+    record { wrote = rw (← lines-refused binary64 (now (c .before .before .before .before .before .before .before .before .before .before .before .before .args .s)) (parsed .result) _ _ _ _ _ (parsed .ensures) (c .before .before .before .before .before .before .k .given .1) (c .before .before .before .coded .ensures)) (line .0); short = omega (arith, line .1) }
 
 same-length-2 : tie.Need-same-length-2
 same-length-2 c = search needs

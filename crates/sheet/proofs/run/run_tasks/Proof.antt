@@ -81,10 +81,10 @@ same-length-5 c = c .before .loop .inv .6
 
 returns : tie.Need-returns Inv-loop μ-loop
 returns c =
-    let a = c .before .before .before .before .before .before .before .before .before .args in
+    let b = c .before .before .before .before .before .before .before .before .before in
     let l = c .before .loop in
-    let all : l .k ≡ a .t = omega (arith, l .inv .0, c .loop-test .left) in
-    rw all at (l .inv .7)
+    let all : l .k ≡ b .args .t = omega (arith, l .inv .0, c .loop-test .left) in
+    record { wrote = rw all at (l .inv .7); short = omega (arith, l .inv .1, b .pre .0 .few) }
 
 pub run-tasks-spec : {M : Type 1} → statement M
 run-tasks-spec =
