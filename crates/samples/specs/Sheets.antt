@@ -26,7 +26,18 @@ three = 0 ∷ 0 ∷ 0 ∷ 0 ∷ 0 ∷ 0 ∷ 8 ∷ 64 ∷ []
 abbrev pub bytes : List ℕ
 bytes = (2 ∷ []) ++ one ++ one ++ zero ++ one ++ (0 ∷ 1 ∷ []) ++ three ++ (1 ∷ 3 ∷ 0 ∷ [])
 
--- what is written for a sheet
+-- What is written for a sheet, in this order:
+--     1 ok 0 3ff0000000000000 4008000000000000 0000000000000000 3ff0000000000000
+--     0 no 15 0 0      of no byte
+--     0 no 15 40 0     of 40 bytes
+--     0 no 15 45 0     of 45 bytes
+--     0 no 15 46 0     with one more
+--     0 no 16 0 0      of order 9
+--     0 no 16 33 0     of 9 directions
+--     0 no 16 44 0     with code 10
+--     0 no 16 45 0     with code 6 and no direction
+--     0 no 16 45 0     with exponent 1 of one
+--     1 no 6 0 0       with an infinity in the first entry
 unfoldable pub sheet-table : List Line
 sheet-table =
     (49 ∷ 32 ∷ 111 ∷ 107 ∷ 32 ∷ 48 ∷ 32 ∷ 51 ∷ 102 ∷ 102 ∷ 48 ∷ 48 ∷ 48 ∷ 48 ∷ 48 ∷ 48 ∷ 48 ∷ 48 ∷ 48 ∷ 48 ∷ 48 ∷ 48 ∷ 48 ∷ 32 ∷ 52 ∷ 48 ∷ 48 ∷ 56 ∷ 48 ∷ 48 ∷ 48 ∷ 48 ∷ 48 ∷ 48 ∷ 48 ∷ 48 ∷ 48 ∷ 48 ∷ 48 ∷ 48 ∷ 32 ∷ 48 ∷ 48 ∷ 48 ∷ 48 ∷ 48 ∷ 48 ∷ 48 ∷ 48 ∷ 48 ∷ 48 ∷ 48 ∷ 48 ∷ 48 ∷ 48 ∷ 48 ∷ 48 ∷ 32 ∷ 51 ∷ 102 ∷ 102 ∷ 48 ∷ 48 ∷ 48 ∷ 48 ∷ 48 ∷ 48 ∷ 48 ∷ 48 ∷ 48 ∷ 48 ∷ 48 ∷ 48 ∷ 48 ∷ 10 ∷ [], sheetLines binary64 bytes)
