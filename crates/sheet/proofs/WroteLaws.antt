@@ -38,7 +38,7 @@ replaced-again o a t u h =
 pub wrote-none : (o : List ℕ) (a : ℕ) → a ≤ length o → Wrote o a [] o a
 wrote-none o a h = record { bytes = sym (take-append-drop a o); past = omega arith; fits = omega arith }
 
-pub wrote-length : {o : List ℕ} {a : ℕ} {t : List ℕ} {o′ : List ℕ} {a′ : ℕ} → Wrote o a t o′ a′ → length o′ ≡ length o
+wrote-length : {o : List ℕ} {a : ℕ} {t : List ℕ} {o′ : List ℕ} {a′ : ℕ} → Wrote o a t o′ a′ → length o′ ≡ length o
 wrote-length {o} {a} {t} w = ap length (w .bytes) ∙ length-replaced o a t (w .fits)
 
 pub wrote-more : {o : List ℕ} {a : ℕ} {t : List ℕ} {o′ : List ℕ} {a′ : ℕ} {u o″ : List ℕ} {a″ : ℕ} → Wrote o a t o′ a′ → Wrote o′ a′ u o″ a″ → Wrote o a (t ++ u) o″ a″

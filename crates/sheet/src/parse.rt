@@ -1,8 +1,7 @@
 // The four sections of a sheet, read from left to right.
 ghost use mathlib.Core.Path.{_≡_};
 ghost use Prim.Native.Nat.{_+_, _*_, _≤_, _<_};
-ghost use Rattle.sheet.specs.Parse.{byteIn, valueOf};
-ghost use Rattle.sheet.specs.Parse as P;
+ghost use Rattle.sheet.specs.Parse.{byteIn, valueOf, bytesAfter, indexLimit, parseEnd, parseEach, parseTasks, parseExponents, parseDirections, parseSheet, order as orderOf, section as sectionOf, task as taskOf, tasks as tasksOf};
 
 // A value, or a refusal's number and position.
 pub enum Step {
@@ -37,7 +36,7 @@ fn byte_in(s: &[u8], p: usize, lo: usize, hi: usize) -> Step
 // v, where k bytes from p on are there.
 fn bytes_after(s: &[u8], p: usize, k: usize, v: usize) -> Step
     requires { ⌜ (p ≤ 10000) × (k ≤ 10000) ⌝ }
-    ensures { λ r. ⌜ r ≡ P.bytesAfter (now (s .entry)) p k v ⌝ }
+    ensures { λ r. ⌜ r ≡ bytesAfter (now (s .entry)) p k v ⌝ }
     ensures { λ r. ⌜ valueOf r ≤ v ⌝ }
 {
     if s.len() < p + k {
@@ -48,7 +47,7 @@ fn bytes_after(s: &[u8], p: usize, k: usize, v: usize) -> Step
 
 // The order, with its matrix.
 fn order(s: &[u8]) -> Step
-    ensures { λ r. ⌜ r ≡ P.order (now (s .entry)) ⌝ }
+    ensures { λ r. ⌜ r ≡ orderOf (now (s .entry)) ⌝ }
     ensures { λ r. ⌜ valueOf r < 9 ⌝ }
 {
     let first = byte_in(s, 0, 1, 9);
@@ -61,7 +60,7 @@ fn order(s: &[u8]) -> Step
 // A count below 9, with its items.
 fn section(s: &[u8], p: usize, size: usize) -> Step
     requires { ⌜ (p < 10000) × (size ≤ 512) ⌝ }
-    ensures { λ r. ⌜ r ≡ P.section (now (s .entry)) p 9 size ⌝ }
+    ensures { λ r. ⌜ r ≡ sectionOf (now (s .entry)) p 9 size ⌝ }
     ensures { λ r. ⌜ valueOf r < 9 ⌝ }
 {
     let first = byte_in(s, p, 0, 9);
@@ -73,7 +72,7 @@ fn section(s: &[u8], p: usize, size: usize) -> Step
 
 // How many values the index of a task may have.
 fn index_limit(code: usize, d: usize, e: usize) -> usize
-    ensures { λ r. ⌜ r ≡ P.indexLimit code d e ⌝ }
+    ensures { λ r. ⌜ r ≡ indexLimit code d e ⌝ }
 {
     if code == 3 {
         return e;
@@ -90,7 +89,7 @@ fn index_limit(code: usize, d: usize, e: usize) -> usize
 // One task: its code and its index.
 fn task(s: &[u8], q: usize, d: usize, e: usize) -> Step
     requires { ⌜ q ≤ 10000 ⌝ }
-    ensures { λ r. ⌜ r ≡ P.task (now (s .entry)) q d e ⌝ }
+    ensures { λ r. ⌜ r ≡ taskOf (now (s .entry)) q d e ⌝ }
 {
     let code = byte_in(s, q, 0, 10);
     let Step::Value(v) = code else {
@@ -102,7 +101,7 @@ fn task(s: &[u8], q: usize, d: usize, e: usize) -> Step
 // The tasks from q on, count of them.
 fn tasks(s: &[u8], q: usize, d: usize, e: usize, count: usize) -> Step
     requires { ⌜ (q ≤ 9000) × (count ≤ 16) ⌝ }
-    ensures { λ r. ⌜ r ≡ P.tasks (now (s .entry)) q d e count ⌝ }
+    ensures { λ r. ⌜ r ≡ tasksOf (now (s .entry)) q d e count ⌝ }
 {
     let mut at = q;
     let mut k = count;
@@ -119,7 +118,7 @@ fn tasks(s: &[u8], q: usize, d: usize, e: usize, count: usize) -> Step
 
 // Nothing may follow the tasks.
 fn parse_end(s: &[u8], p: usize, n: usize, d: usize, e: usize, t: usize) -> Parse
-    ensures { λ r. ⌜ r ≡ P.parseEnd (now (s .entry)) p n d e t ⌝ }
+    ensures { λ r. ⌜ r ≡ parseEnd (now (s .entry)) p n d e t ⌝ }
 {
     if p < s.len() {
         return Parse::Refused(15, p);
@@ -130,7 +129,7 @@ fn parse_end(s: &[u8], p: usize, n: usize, d: usize, e: usize, t: usize) -> Pars
 // The tasks after their count t, which stands at p.
 fn parse_each(s: &[u8], p: usize, n: usize, d: usize, e: usize, t: usize) -> Parse
     requires { ⌜ (p ≤ 8000) × (t ≤ 16) ⌝ }
-    ensures { λ r. ⌜ r ≡ P.parseEach (now (s .entry)) p n d e t ⌝ }
+    ensures { λ r. ⌜ r ≡ parseEach (now (s .entry)) p n d e t ⌝ }
 {
     match tasks(s, p + 1, d, e, t) {
         Step::Value(_) => parse_end(s, p + 1 + 2 * t, n, d, e, t),
@@ -141,7 +140,7 @@ fn parse_each(s: &[u8], p: usize, n: usize, d: usize, e: usize, t: usize) -> Par
 // The section of the tasks at p.
 fn parse_tasks(s: &[u8], p: usize, n: usize, d: usize, e: usize) -> Parse
     requires { ⌜ p ≤ 8000 ⌝ }
-    ensures { λ r. ⌜ r ≡ P.parseTasks (now (s .entry)) p n d e ⌝ }
+    ensures { λ r. ⌜ r ≡ parseTasks (now (s .entry)) p n d e ⌝ }
 {
     match byte_in(s, p, 1, 17) {
         Step::Value(t) => parse_each(s, p, n, d, e, t),
@@ -152,7 +151,7 @@ fn parse_tasks(s: &[u8], p: usize, n: usize, d: usize, e: usize) -> Parse
 // The section of the exponents at p, and what follows.
 fn parse_exponents(s: &[u8], p: usize, n: usize, d: usize) -> Parse
     requires { ⌜ p ≤ 7000 ⌝ }
-    ensures { λ r. ⌜ r ≡ P.parseExponents (now (s .entry)) p n d ⌝ }
+    ensures { λ r. ⌜ r ≡ parseExponents (now (s .entry)) p n d ⌝ }
 {
     match section(s, p, 8) {
         Step::Value(e) => parse_tasks(s, p + 1 + e * 8, n, d, e),
@@ -163,7 +162,7 @@ fn parse_exponents(s: &[u8], p: usize, n: usize, d: usize) -> Parse
 // The section of the directions at p, and what follows.
 fn parse_directions(s: &[u8], p: usize, n: usize) -> Parse
     requires { ⌜ (p ≤ 1000) × (n ≤ 8) ⌝ }
-    ensures { λ r. ⌜ r ≡ P.parseDirections (now (s .entry)) p n ⌝ }
+    ensures { λ r. ⌜ r ≡ parseDirections (now (s .entry)) p n ⌝ }
 {
     let size = 8 * (n * n);
     match section(s, p, size) {
@@ -174,7 +173,7 @@ fn parse_directions(s: &[u8], p: usize, n: usize) -> Parse
 
 // What a sheet's bytes are.
 pub fn parse_sheet(s: &[u8]) -> Parse
-    ensures { λ r. ⌜ r ≡ P.parseSheet (now (s .entry)) ⌝ }
+    ensures { λ r. ⌜ r ≡ parseSheet (now (s .entry)) ⌝ }
 {
     match order(s) {
         Step::Value(n) => parse_directions(s, 1 + 8 * (n * n), n),

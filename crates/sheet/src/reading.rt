@@ -6,6 +6,7 @@ ghost use lib.Ieee.{binary64};
 ghost use Rattle.sheet.specs.Bytes.{wordAt, numberAt, numbersAt};
 use arithmetic::float::float_of;
 
+// A byte as a wide number.
 fn wide(b: u8) -> u64
     ensures { λ r. ⌜ r ≡ b ⌝ }
 {
