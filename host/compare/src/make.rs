@@ -57,13 +57,23 @@ fn negative(n: usize, r: &mut Random) -> Vec<f64> {
     a
 }
 
+/// The identity with one entry near the largest number above the diagonal: its logarithm is that entry, which a fractional power may take past the largest.
+fn steep(n: usize, r: &mut Random) -> Vec<f64> {
+    let mut a: Vec<f64> = (0..n * n).map(|k| if k / n == k % n { 1.0 } else { 0.0 }).collect();
+    if n > 1 {
+        a[n - 1] = r.sign() * (1.0 + r.unit()) * 2f64.powi(1022);
+    }
+    a
+}
+
 fn matrix(n: usize, r: &mut Random) -> Vec<f64> {
-    let mut a = match r.below(12) {
-        0 => reciprocals(n, r),
-        1 => uneven(n, r),
-        2 => negative(n, r),
-        3 => square(r.pick(&[Kind::Zeros, Kind::SmallIntegers, Kind::Singular]), n, r),
-        4 => square(r.pick(&[Kind::Huge, Kind::Tiny, Kind::Overflowing]), n, r),
+    let mut a = match r.below(24) {
+        0..=1 => reciprocals(n, r),
+        2..=3 => uneven(n, r),
+        4..=5 => negative(n, r),
+        6..=7 => square(r.pick(&[Kind::Zeros, Kind::SmallIntegers, Kind::Singular]), n, r),
+        8..=9 => square(r.pick(&[Kind::Huge, Kind::Tiny, Kind::Overflowing]), n, r),
+        10 => steep(n, r),
         // The kinds that suit a function, and now and then any kind.
         _ => matrix_for(FUNCTIONS[r.below(10)].0, n, r),
     };
