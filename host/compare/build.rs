@@ -17,6 +17,8 @@ fn main() {
     let library = library();
     println!("cargo::rerun-if-changed={}", library.display());
     let Ok(library) = library.canonicalize() else {
+        // A library that is named must be there.
+        assert!(env::var_os("FIGPUMICE_STATICLIB").is_none(), "{}: not there", library.display());
         println!("cargo::warning=built without the port: no static library; `rt staticlib sheet` makes it");
         return;
     };

@@ -1,7 +1,19 @@
 //! The port, where its static library was there when this was built.
 
-use compare::entry::{ABSENT, port};
+use compare::check::check;
+use compare::entry::{ABSENT, ROOM, port};
+use compare::expected::expected;
 use compare::run::run;
+use compare::samples::samples;
+
+#[test]
+#[cfg_attr(not(port), ignore = "the port's static library is not there")]
+fn the_port_gives_the_samples() {
+    let entry = port().expect(ABSENT);
+    for (name, bytes) in samples() {
+        check(entry, &bytes, ROOM, &expected(&bytes, ROOM).lines()).unwrap_or_else(|fault| panic!("{name}: {fault}"));
+    }
+}
 
 #[test]
 #[cfg_attr(not(port), ignore = "the port's static library is not there")]
