@@ -44,3 +44,16 @@ pub record Delivered (given o : Outcome) (v before after w w′ : List Float) : 
   pub outcome : reported o ≡ reported given
   pub output : after ≡ exit (λ _. v) (reported given) before
   pub workspace : w′ ≡ cleared w
+
+-- the same with two outputs: the value's matrix stands in slot 0 and the derivative's in slot 1
+pub record ReplacedBoth (ss : List ℕ) (n : ℕ) (x : Result Both) (o : Outcome) (w w′ : List Float) : Type 0 where
+  pub outcome : reported o ≡ outcomeOf x
+  pub value : slot n w′ 0 ≡ exit (λ (b : Both). b .value) x (slot n w′ 0)
+  pub derivative : slot n w′ 1 ≡ exit (λ (b : Both). b .derivative) x (slot n w′ 1)
+  pub only : Only (member ss) w w′
+
+pub record DeliveredBoth (given o : Outcome) (v d first first′ second second′ w w′ : List Float) : Type 0 where
+  pub outcome : reported o ≡ reported given
+  pub value : first′ ≡ exit (λ _. v) (reported given) first
+  pub derivative : second′ ≡ exit (λ _. d) (reported given) second
+  pub workspace : w′ ≡ cleared w

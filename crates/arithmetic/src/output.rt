@@ -2,7 +2,7 @@
 ghost use Prim.Native.Nat.{_≤_};
 ghost use lib.ListN.{length};
 ghost use Rattle.arithmetic.specs.Matrix.{part};
-ghost use Rattle.arithmetic.specs.Outputs.{Delivered};
+ghost use Rattle.arithmetic.specs.Outputs.{Delivered, DeliveredBoth};
 use crate::answer::Answer;
 use crate::answer::Outcome;
 use crate::answer::done;
@@ -18,6 +18,30 @@ pub fn deliver(outcome: Outcome, out: &mut [f64], w: &mut [f64]) -> Answer
     match outcome {
         Outcome::Done { halvings } => {
             copy_out(w, 0, out);
+            clear(w);
+            done(halvings)
+        }
+        Outcome::Refused(why) => {
+            clear(w);
+            refused(why)
+        }
+    }
+}
+
+// What stands in slot 0 is written to first, and what stands in slot 1 to second.
+pub fn deliver_both(
+    outcome: Outcome,
+    first: &mut [f64],
+    second: &mut [f64],
+    w: &mut [f64],
+) -> Answer
+    requires { ⌜ (length (now first) ≤ 256) × (length (now second) ≤ 256) × (8192 ≤ length (now w)) ⌝ }
+    ensures { λ r. ⌜ DeliveredBoth outcome (r .outcome) (part (now (w .entry)) 0 (length (now (first .entry)))) (part (now (w .entry)) 256 (length (now (second .entry)))) (now (first .entry)) (now (first .exit)) (now (second .entry)) (now (second .exit)) (now (w .entry)) (now (w .exit)) ⌝ }
+{
+    match outcome {
+        Outcome::Done { halvings } => {
+            copy_out(w, 0, first);
+            copy_out(w, 1, second);
             clear(w);
             done(halvings)
         }

@@ -1,4 +1,4 @@
--- `square` meets its contract. The invariant: the first i squarings are done. Assumes nothing.
+-- `square` meets its contract. The invariant: so many squarings are done. Assumes nothing.
 use Prim.Native.Nat.{_-_, _≤_}
 use native.Mathlib.Omega.{arith}
 use mathlib.Core.Path.{_≡_, _∙_}
@@ -9,10 +9,10 @@ use Rattle.arithmetic.proofs.workspace.square.Statement.{statement}
 use Rattle.arithmetic.proofs.workspace.square.Tie as tie
 
 abbrev Inv-loop : tie.InvT-loop
-Inv-loop w₀ a t n s i₀ w i = (i ≤ s) × Squared binary64 n w₀ a t i w
+Inv-loop w₀ a t n s done₀ w done = (done ≤ s) × Squared binary64 n w₀ a t done w
 
 abbrev μ-loop : tie.MeasureT-loop
-μ-loop w₀ a t n s i₀ w i = s - i
+μ-loop w₀ a t n s done₀ w done = s - done
 
 loop-holds : tie.Need-loop-holds Inv-loop μ-loop
 loop-holds c = (omega arith, squared-none binary64 _ _ _ _)
@@ -28,8 +28,8 @@ copy-requires c κs =
     let pre = at-loop .before .before .pre in
     (room-kept (pre .0) (c .before .before .before .mult .kept .0 ∙ at-loop .loop .inv .1 .only .long), (pre .1 .1, pre .1 .0, eqb-swap (at-loop .before .before .args .a) (at-loop .before .before .args .t) (pre .1 .2)))
 
-add-i : tie.Need-add-i Inv-loop μ-loop
-add-i c = omega arith
+add-done : tie.Need-add-done Inv-loop μ-loop
+add-done c = omega arith
 
 loop-less : tie.Need-loop-less Inv-loop μ-loop
 loop-less c = omega arith
@@ -49,7 +49,7 @@ same-length c = c .before .loop .inv .1 .only .long
 
 returns : tie.Need-returns Inv-loop μ-loop
 returns c =
-    let e : c .before .loop .i ≡ c .before .before .before .args .s = omega arith in
+    let e : c .before .loop .done ≡ c .before .before .before .args .s = omega arith in
     rw e at (c .before .loop .inv .1)
 
 pub square-spec : {M : Type 1} → statement M
@@ -61,7 +61,7 @@ square-spec =
     loop-holds
     mult-requires
     copy-requires
-    add-i
+    add-done
     loop-less
     loop-again
     same-length

@@ -1,0 +1,37 @@
+-- `newton_mean` meets its contract: a step for each call. Assumes nothing.
+use lib.Ieee.{binary64}
+use Rattle.roots.proofs.NewtonLaws.{newton-mean-steps}
+use borrow.Author.Needs.{needs}
+use Rattle.roots.proofs.newton.newton_mean.Statement.{statement}
+use Rattle.roots.proofs.newton.newton_mean.Tie as tie
+
+mean-requires : tie.Need-mean-requires
+mean-requires c κs = search needs
+
+difference-requires : tie.Need-difference-requires
+difference-requires c κs = search needs
+
+copy-requires : tie.Need-copy-requires
+copy-requires c κs = search needs
+
+root-verdict-requires : tie.Need-root-verdict-requires
+root-verdict-requires c κs = search needs
+
+same-length : tie.Need-same-length
+same-length c = search needs
+
+returns : tie.Need-returns
+returns c =
+    let s = c .before .before .before .before .before .before .before .before .before .before .before .before in
+    newton-mean-steps binary64 (s .args .n) (s .args .w .now) (s .pre) (c .before .before .before .before .before .before .before .before .before .mean .last .0) (c .before .before .before .copy .last .0) (c .before .before .before .before .before .difference .result) (c .root-verdict .result) (c .before .before .before .before .before .before .before .before .before .mean .ensures) (c .before .before .before .before .before .difference .ensures) (c .before .before .before .copy .ensures) (c .root-verdict .ensures)
+
+pub newton-mean-spec : {M : Type 1} → statement M
+newton-mean-spec =
+    tie.close
+    (tie.spec
+    mean-requires
+    difference-requires
+    copy-requires
+    root-verdict-requires
+    same-length
+    returns)

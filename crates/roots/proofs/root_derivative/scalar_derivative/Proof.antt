@@ -1,0 +1,16 @@
+-- `scalar_derivative` meets its contract. Assumes nothing.
+use lib.Ieee.{ofBits}
+use Rattle.functions.specs.Derivatives.{scalarDerivative}
+use Rattle.roots.proofs.root_derivative.scalar_derivative.Statement.{statement}
+use Rattle.roots.proofs.root_derivative.scalar_derivative.Tie as tie
+
+returns : tie.Need-returns
+unfolding ofBits scalarDerivative
+returns c = rw (c .if1 .taken)
+
+returns-2 : tie.Need-returns-2
+unfolding ofBits scalarDerivative
+returns-2 c = rw (c .if1 .left)
+
+pub scalar-derivative-spec : {M : Type 1} → statement M
+scalar-derivative-spec = tie.close (tie.spec returns returns-2)

@@ -1,0 +1,88 @@
+-- `sylvester_row` meets its contract. The invariant: the first q parts of the row are written, and nothing else is changed. Assumes nothing.
+use Prim.Native.Nat.{_-_, _<_, _≤_}
+use mathlib.Core.Path.{_≡_, ap, _∙_}
+use lib.Ieee.{binary64}
+use Rattle.arithmetic.specs.Matrix.{at, put}
+use Rattle.arithmetic.proofs.MatrixLaws.{row-end}
+use Rattle.functions.specs.Derivatives.{sylvesterEntry}
+use Rattle.functions.proofs.KroneckerLaws.{Filled, filled-none, filled-more, row-parts}
+use native.Mathlib.Omega.{arith}
+use borrow.Author.Needs.{needs}
+use Rattle.roots.proofs.sylvester.sylvester_row.Statement.{statement}
+use Rattle.roots.proofs.sylvester.sylvester_row.Tie as tie
+
+abbrev Inv-loop : tie.InvT-loop
+Inv-loop out₀ y n s p r x z₀ q₀ out z q = (q ≤ n) × Filled out₀ y q n (λ q. sylvesterEntry binary64 n s p q r) z out
+
+abbrev μ-loop : tie.MeasureT-loop
+μ-loop out₀ y n s p r x z₀ q₀ out z q = n - q
+
+mul-x : tie.Need-mul-x Inv-loop μ-loop
+mul-x c = search needs
+
+loop-holds : tie.Need-loop-holds Inv-loop μ-loop
+loop-holds c = (omega arith, filled-none _ _ _ _)
+
+add-sylvester-part : tie.Need-add-sylvester-part Inv-loop μ-loop
+add-sylvester-part c = search needs
+
+mul-sylvester-part : tie.Need-mul-sylvester-part Inv-loop μ-loop
+mul-sylvester-part c = search needs
+
+shared-slice-read-sylvester-part : tie.Need-shared-slice-read-sylvester-part Inv-loop μ-loop
+shared-slice-read-sylvester-part c = search needs
+
+sylvester-part-requires : tie.Need-sylvester-part-requires Inv-loop μ-loop
+sylvester-part-requires c κs =
+    let l = c .before .before .before .loop in
+    let a = c .before .before .before .before .before .before .args in
+    let less : l .q < a .n = omega arith in
+    omega (arith, row-end (l .q) (a .n) (a .n) less)
+
+add-z : tie.Need-add-z Inv-loop μ-loop
+add-z c =
+    let l = c .before .before .before .before .before .before .loop in
+    let a = c .before .before .before .before .before .before .before .before .before .args in
+    let less : l .q < a .n = omega arith in
+    omega (arith, row-end (l .q) (a .n) (a .n) less)
+
+add-q : tie.Need-add-q Inv-loop μ-loop
+add-q c = search needs
+
+loop-less : tie.Need-loop-less Inv-loop μ-loop
+loop-less c = search needs
+
+loop-again : tie.Need-loop-again Inv-loop μ-loop
+unfolding sylvesterEntry at
+loop-again c =
+    let a = c .before .before .before .before .before .before .before .before .before .args in
+    (omega arith, filled-more _ _ _ _ (λ q. sylvesterEntry binary64 (a .n) (a .s .now) (a .p) q (a .r)) _ _ _ (c .before .before .before .before .before .before .loop .inv .1) (c .before .before .sylvester-part .ensures))
+
+same-length : tie.Need-same-length Inv-loop μ-loop
+same-length c = search needs
+
+returns : tie.Need-returns Inv-loop μ-loop
+returns c =
+    let l = c .before .loop in
+    let a = c .before .before .before .before .args in
+    let e : l .q ≡ a .n = omega arith in
+    rw e at (l .inv .1 .list) ∙ ap (put (a .out .now) (a .y)) (row-parts (sylvesterEntry binary64 (a .n) (a .s .now)) (a .n) (a .n) (a .p) (a .r))
+
+pub sylvester-row-spec : {M : Type 1} → statement M
+sylvester-row-spec =
+    tie.close
+    (tie.spec
+    Inv-loop
+    μ-loop
+    mul-x
+    loop-holds
+    add-sylvester-part
+    mul-sylvester-part
+    shared-slice-read-sylvester-part
+    sylvester-part-requires
+    add-z
+    add-q
+    loop-less
+    loop-again
+    same-length
+    returns)

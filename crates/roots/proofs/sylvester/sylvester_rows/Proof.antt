@@ -1,0 +1,72 @@
+-- `sylvester_rows` meets its contract. The invariant: the first r rows are written, and nothing else is changed. Assumes nothing.
+use Prim.Native.Nat.{_*_, _-_, _<_, _≤_}
+use mathlib.Core.Path.{_≡_}
+use lib.Ieee.{binary64}
+use Rattle.arithmetic.proofs.MatrixLaws.{row-end}
+use Rattle.functions.specs.Kronecker.{blockRow}
+use Rattle.functions.specs.Derivatives.{sylvesterEntry}
+use Rattle.functions.proofs.KroneckerLaws.{Filled, filled-none, filled-more}
+use native.Mathlib.Omega.{arith}
+use borrow.Author.Needs.{needs}
+use Rattle.roots.proofs.sylvester.sylvester_rows.Statement.{statement}
+use Rattle.roots.proofs.sylvester.sylvester_rows.Tie as tie
+
+abbrev Inv-loop : tie.InvT-loop
+Inv-loop out₀ y n s p width z₀ r₀ out z r = (r ≤ n) × Filled out₀ y r (n * n) (blockRow n (sylvesterEntry binary64 n s) p) z out
+
+abbrev μ-loop : tie.MeasureT-loop
+μ-loop out₀ y n s p width z₀ r₀ out z r = n - r
+
+mul-width : tie.Need-mul-width Inv-loop μ-loop
+mul-width c = search needs
+
+loop-holds : tie.Need-loop-holds Inv-loop μ-loop
+loop-holds c = (omega arith, filled-none _ _ _ _)
+
+sylvester-row-requires : tie.Need-sylvester-row-requires Inv-loop μ-loop
+sylvester-row-requires c κs =
+    let l = c .before .before .loop in
+    let a = c .before .before .before .before .before .args in
+    let less : l .r < a .n = omega arith in
+    omega (arith, row-end (l .r) (a .n) (a .n * a .n) less, row-end (l .r) (a .n) (a .n) less)
+
+add-z : tie.Need-add-z Inv-loop μ-loop
+add-z c =
+    let l = c .before .before .before .before .before .loop in
+    let a = c .before .before .before .before .before .before .before .before .args in
+    let less : l .r < a .n = omega arith in
+    omega (arith, row-end (l .r) (a .n) (a .n * a .n) less)
+
+add-r : tie.Need-add-r Inv-loop μ-loop
+add-r c = search needs
+
+loop-less : tie.Need-loop-less Inv-loop μ-loop
+loop-less c = search needs
+
+loop-again : tie.Need-loop-again Inv-loop μ-loop
+loop-again c = (omega arith, filled-more _ _ _ _ _ _ _ _ (c .before .before .before .before .before .loop .inv .1) (c .before .before .sylvester-row .ensures))
+
+same-length : tie.Need-same-length Inv-loop μ-loop
+same-length c = search needs
+
+returns : tie.Need-returns Inv-loop μ-loop
+returns c =
+    let l = c .before .loop in
+    let e : l .r ≡ c .before .before .before .before .args .n = omega arith in
+    rw e at (l .inv .1 .list)
+
+pub sylvester-rows-spec : {M : Type 1} → statement M
+sylvester-rows-spec =
+    tie.close
+    (tie.spec
+    Inv-loop
+    μ-loop
+    mul-width
+    loop-holds
+    sylvester-row-requires
+    add-z
+    add-r
+    loop-less
+    loop-again
+    same-length
+    returns)

@@ -1,0 +1,117 @@
+// The public calls of the square root and the logarithm. Each asks its questions first.
+ghost use lib.ListN.{length};
+ghost use lib.Ieee.{binary64};
+ghost use Rattle.arithmetic.specs.Outputs.{OneOutputIn, TwoOutputsIn};
+ghost use Rattle.functions.specs.Calls.{frechetLogm, frechetSqrtm, sqrtm as sqrtmOf, logm as logmOf};
+use crate::log_derivative::frechet_logm_in;
+use crate::logarithm::logm_in;
+use crate::root_derivative::frechet_sqrtm_in;
+use crate::square_root::sqrtm_in;
+use arithmetic::answer::Answer;
+use arithmetic::answer::Question;
+use arithmetic::answer::refused;
+use arithmetic::output::deliver;
+use arithmetic::output::deliver_both;
+use arithmetic::question::ask_frechet_logm;
+use arithmetic::question::ask_frechet_sqrtm;
+use arithmetic::question::ask_logm;
+use arithmetic::question::ask_sqrtm;
+use arithmetic::workspace::copy_in;
+
+// The square root of the matrix a is written to out.
+pub fn sqrtm(rows: usize, columns: usize, a: &[f64], out: &mut [f64], w: &mut [f64]) -> Answer
+    ensures { λ r. ⌜ OneOutputIn (sqrtmOf binary64 rows columns (now (a .entry)) (length (now (out .entry))) (length (now (w .entry)))) (r .outcome) (now (out .entry)) (now (out .exit)) (now (w .entry)) (now (w .exit)) ⌝ }
+{
+    match ask_sqrtm(rows, columns, a, out.len(), w.len()) {
+        Question::No(why) => refused(why),
+        Question::Passed => {
+            copy_in(w, 0, a);
+            let outcome = sqrtm_in(w, rows);
+            deliver(outcome, out, w)
+        }
+    }
+}
+
+// The logarithm of the matrix a is written to out.
+pub fn logm(rows: usize, columns: usize, a: &[f64], out: &mut [f64], w: &mut [f64]) -> Answer
+    ensures { λ r. ⌜ OneOutputIn (logmOf binary64 rows columns (now (a .entry)) (length (now (out .entry))) (length (now (w .entry)))) (r .outcome) (now (out .entry)) (now (out .exit)) (now (w .entry)) (now (w .exit)) ⌝ }
+{
+    match ask_logm(rows, columns, a, out.len(), w.len()) {
+        Question::No(why) => refused(why),
+        Question::Passed => {
+            copy_in(w, 0, a);
+            let outcome = logm_in(w, rows);
+            deliver(outcome, out, w)
+        }
+    }
+}
+
+// The logarithm of the matrix a is written to first, and its derivative in the direction e, of height by width, to second.
+pub fn frechet_logm(
+    rows: usize,
+    columns: usize,
+    a: &[f64],
+    height: usize,
+    width: usize,
+    e: &[f64],
+    first: &mut [f64],
+    second: &mut [f64],
+    w: &mut [f64],
+) -> Answer
+    ensures { λ r. ⌜ TwoOutputsIn (frechetLogm binary64 rows columns (now (a .entry)) height width (now (e .entry)) (length (now (first .entry))) (length (now (second .entry))) (length (now (w .entry)))) (r .outcome) (now (first .entry)) (now (first .exit)) (now (second .entry)) (now (second .exit)) (now (w .entry)) (now (w .exit)) ⌝ }
+{
+    match ask_frechet_logm(
+        rows,
+        columns,
+        a,
+        height,
+        width,
+        e,
+        first.len(),
+        second.len(),
+        w.len(),
+    ) {
+        Question::No(why) => refused(why),
+        Question::Passed => {
+            copy_in(w, 0, a);
+            copy_in(w, 4, e);
+            let outcome = frechet_logm_in(w, rows);
+            deliver_both(outcome, first, second, w)
+        }
+    }
+}
+
+// The square root of the matrix a is written to first, and its derivative in the direction e, of height by width, to second.
+pub fn frechet_sqrtm(
+    rows: usize,
+    columns: usize,
+    a: &[f64],
+    height: usize,
+    width: usize,
+    e: &[f64],
+    first: &mut [f64],
+    second: &mut [f64],
+    w: &mut [f64],
+) -> Answer
+    ensures { λ r. ⌜ TwoOutputsIn (frechetSqrtm binary64 rows columns (now (a .entry)) height width (now (e .entry)) (length (now (first .entry))) (length (now (second .entry))) (length (now (w .entry)))) (r .outcome) (now (first .entry)) (now (first .exit)) (now (second .entry)) (now (second .exit)) (now (w .entry)) (now (w .exit)) ⌝ }
+{
+    match ask_frechet_sqrtm(
+        rows,
+        columns,
+        a,
+        height,
+        width,
+        e,
+        first.len(),
+        second.len(),
+        w.len(),
+    ) {
+        Question::No(why) => refused(why),
+        Question::Passed => {
+            copy_in(w, 0, a);
+            copy_in(w, 6, e);
+            let outcome = frechet_sqrtm_in(w, rows);
+            deliver_both(outcome, first, second, w)
+        }
+    }
+}

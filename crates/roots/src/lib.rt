@@ -1,0 +1,15 @@
+// The square root and the logarithm of a matrix, and their derivatives.
+mod calls;
+pub mod division;
+pub mod log_derivative;
+pub mod logarithm;
+pub mod newton;
+pub mod pass;
+pub mod root_derivative;
+pub mod square_root;
+pub mod sylvester;
+
+pub use calls::frechet_logm;
+pub use calls::frechet_sqrtm;
+pub use calls::logm;
+pub use calls::sqrtm;
