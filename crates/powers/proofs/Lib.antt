@@ -1,0 +1,5 @@
+-- Laws that the proofs of this crate cite.
+pub mod SeriesLaws
+pub mod ReplacedLaws
+pub mod WholeLaws
+pub mod PowerLaws

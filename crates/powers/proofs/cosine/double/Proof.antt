@@ -1,0 +1,31 @@
+-- `double` meets its contract: a step for each kernel. Assumes nothing.
+use lib.Dec.{lit≤}
+use lib.Ieee.{binary64}
+use Rattle.arithmetic.proofs.Slots.{room-kept, eqb-swap}
+use Rattle.powers.proofs.SeriesLaws.{two-bits, double-steps}
+use borrow.Author.Needs.{needs}
+use Rattle.powers.proofs.cosine.double.Statement.{statement}
+use Rattle.powers.proofs.cosine.double.Tie as tie
+
+mult-requires : tie.Need-mult-requires
+mult-requires c κs = search needs
+
+times-requires : tie.Need-times-requires
+times-requires c κs =
+    let first = c .before .before .before in
+    let s = first .before .before .before in
+    (room-kept (s .pre .0) (first .mult .kept .0), (lit≤ tt, s .pre .1 .0, eqb-swap (s .args .c) 1 (s .pre .1 .1)))
+
+same-length : tie.Need-same-length
+same-length c = search needs
+
+returns : tie.Need-returns
+returns c =
+    let second = c .before .before in
+    let first = second .before .before .before .before in
+    let s = first .before .before .before in
+    let a = s .args in
+    double-steps binary64 (a .n) (a .w .now) (s .pre .0) (a .c) (first .mult .last .0) (second .times .last .0) _ (s .pre .1 .0) two-bits (first .mult .ensures) (second .times .ensures)
+
+pub double-spec : {M : Type 1} → statement M
+double-spec = tie.close (tie.spec mult-requires times-requires same-length returns)

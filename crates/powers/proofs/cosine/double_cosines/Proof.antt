@@ -1,0 +1,57 @@
+-- `double_cosines` meets its contract. The invariant: the first i doublings are done. Assumes nothing.
+use Prim.Native.Nat.{_-_, _≤_}
+use mathlib.Core.Path.{_≡_}
+use lib.Ieee.{binary64}
+use Rattle.arithmetic.proofs.Slots.{room-kept}
+use Rattle.powers.specs.Series.{CosineAfter}
+use Rattle.powers.proofs.SeriesLaws.{cosine-none, cosine-more}
+use native.Mathlib.Omega.{arith}
+use Rattle.powers.proofs.cosine.double_cosines.Statement.{statement}
+use Rattle.powers.proofs.cosine.double_cosines.Tie as tie
+
+abbrev Inv-loop : tie.InvT-loop
+Inv-loop w₀ n s i₀ w i = (i ≤ s) × CosineAfter binary64 n w₀ i w
+
+abbrev μ-loop : tie.MeasureT-loop
+μ-loop w₀ n s i₀ w i = s - i
+
+loop-holds : tie.Need-loop-holds Inv-loop μ-loop
+loop-holds c = (omega arith, cosine-none binary64 _ _ (c .before .pre))
+
+double-cosine-requires : tie.Need-double-cosine-requires Inv-loop μ-loop
+double-cosine-requires c κs = room-kept (c .before .before .before .before .pre) (c .before .before .loop .inv .1 .only .long)
+
+add-i : tie.Need-add-i Inv-loop μ-loop
+add-i c = omega arith
+
+loop-less : tie.Need-loop-less Inv-loop μ-loop
+loop-less c = omega arith
+
+loop-again : tie.Need-loop-again Inv-loop μ-loop
+loop-again c =
+    let doubled = c .before .before in
+    let at-loop = doubled .before .before .before in
+    let s = at-loop .before .before in
+    (omega arith, cosine-more binary64 (s .args .n) (s .args .w .now) (s .pre) (at-loop .loop .i) (at-loop .loop .w) (doubled .double-cosine .last .0) (at-loop .loop .inv .1) (doubled .double-cosine .ensures))
+
+same-length : tie.Need-same-length Inv-loop μ-loop
+same-length c = c .before .loop .inv .1 .only .long
+
+returns : tie.Need-returns Inv-loop μ-loop
+returns c =
+    let e : c .before .loop .i ≡ c .before .before .before .args .s = omega arith in
+    rw e at (c .before .loop .inv .1)
+
+pub double-cosines-spec : {M : Type 1} → statement M
+double-cosines-spec =
+    tie.close
+    (tie.spec
+    Inv-loop
+    μ-loop
+    loop-holds
+    double-cosine-requires
+    add-i
+    loop-less
+    loop-again
+    same-length
+    returns)

@@ -1,0 +1,64 @@
+// The public calls of cosine, sine and powers. Each asks its questions first, and a refusal leaves output and workspace as they were lent.
+ghost use lib.ListN.{length};
+ghost use lib.Ieee.{binary64};
+ghost use Rattle.arithmetic.specs.Outputs.{OneOutputIn};
+ghost use Rattle.functions.specs.Calls.{cosm as cosmOf, sinm as sinmOf, powm as powmOf};
+use crate::cosine::cosm_in;
+use crate::power::powm_in;
+use crate::sine::sinm_in;
+use arithmetic::answer::Answer;
+use arithmetic::answer::Question;
+use arithmetic::answer::refused;
+use arithmetic::output::deliver;
+use arithmetic::question::ask_expm;
+use arithmetic::question::ask_powm;
+use arithmetic::workspace::copy_in;
+
+// The cosine of the matrix a is written to out.
+pub fn cosm(rows: usize, columns: usize, a: &[f64], out: &mut [f64], w: &mut [f64]) -> Answer
+    ensures { λ r. ⌜ OneOutputIn (cosmOf binary64 rows columns (now (a .entry)) (length (now (out .entry))) (length (now (w .entry)))) (r .outcome) (now (out .entry)) (now (out .exit)) (now (w .entry)) (now (w .exit)) ⌝ }
+{
+    match ask_expm(rows, columns, a, out.len(), w.len()) {
+        Question::No(why) => refused(why),
+        Question::Passed => {
+            copy_in(w, 0, a);
+            let outcome = cosm_in(w, rows);
+            deliver(outcome, out, w)
+        }
+    }
+}
+
+// The sine of the matrix a is written to out.
+pub fn sinm(rows: usize, columns: usize, a: &[f64], out: &mut [f64], w: &mut [f64]) -> Answer
+    ensures { λ r. ⌜ OneOutputIn (sinmOf binary64 rows columns (now (a .entry)) (length (now (out .entry))) (length (now (w .entry)))) (r .outcome) (now (out .entry)) (now (out .exit)) (now (w .entry)) (now (w .exit)) ⌝ }
+{
+    match ask_expm(rows, columns, a, out.len(), w.len()) {
+        Question::No(why) => refused(why),
+        Question::Passed => {
+            copy_in(w, 0, a);
+            let outcome = sinm_in(w, rows);
+            deliver(outcome, out, w)
+        }
+    }
+}
+
+// The power p of the matrix a is written to out.
+pub fn powm(
+    rows: usize,
+    columns: usize,
+    a: &[f64],
+    p: f64,
+    out: &mut [f64],
+    w: &mut [f64],
+) -> Answer
+    ensures { λ r. ⌜ OneOutputIn (powmOf binary64 rows columns (now (a .entry)) (length (now (out .entry))) (length (now (w .entry))) p) (r .outcome) (now (out .entry)) (now (out .exit)) (now (w .entry)) (now (w .exit)) ⌝ }
+{
+    match ask_powm(rows, columns, a, p, out.len(), w.len()) {
+        Question::No(why) => refused(why),
+        Question::Passed => {
+            copy_in(w, 0, a);
+            let outcome = powm_in(w, rows, p);
+            deliver(outcome, out, w)
+        }
+    }
+}
