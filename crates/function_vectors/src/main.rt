@@ -3,9 +3,12 @@
 // vectors. Those in the file stdin were made so, in the folder host, with FIGPUMICE_SOURCE set to the folder of the source:
 //
 //     run() { cargo run --offline --release -q -p vectors -- "$@"; }
-//     for f in expm frechet_expm cond_expm; do run given $f | sed 's/| near/| ok/'; run $f 1 3000 | awk '
-//         match($0, /\| (ok|no [^ ]*)/) { k = substr($0, RSTART, RLENGTH); if (++seen[k] <= (k == "| ok" ? 45 : 3)) print }
-//     '; done > ../crates/function_vectors/stdin
+//     for f in expm logm sqrtm powm cosm sinm frechet_expm frechet_logm frechet_sqrtm cond_expm; do
+//         run given $f | sed 's/| near/| ok/'
+//         run $f 1 3000 | awk '
+//             match($0, /\| (ok|no [^ ]*)/) { k = substr($0, RSTART, RLENGTH); if (++seen[k] <= (k == "| ok" ? 45 : 3)) print }
+//         '
+//     done > ../crates/function_vectors/stdin
 //
 // These are the calls that are written out, and of each function's 3,000 vectors the first 45 that are done and the first 3 of each refusal, without
 // those near a power of two. Of the calls that are written out some lie near one; both counts of halvings agree there.
@@ -55,12 +58,26 @@ fn report(function: Function, name: &[u8], text: &[u8], from: usize, number: u64
     progress
 }
 
-// Runs the vectors of the exponential and its derivatives.
-fn run_text(text: &[u8]) {
+// Runs the vectors of the functions with one output, and answers where the others start.
+fn run_one_output(text: &[u8]) -> Progress
+    ensures { λ r. ⌜ r .at ≤ length (now (text .entry)) ⌝ }
+{
     let a = report(Function::Expm, b"expm", text, 0, 1);
+    let b = report(Function::Logm, b"logm", text, a.at, a.line);
+    let c = report(Function::Sqrtm, b"sqrtm", text, b.at, b.line);
+    let d = report(Function::Powm, b"powm", text, c.at, c.line);
+    let e = report(Function::Cosm, b"cosm", text, d.at, d.line);
+    report(Function::Sinm, b"sinm", text, e.at, e.line)
+}
+
+// Runs the vectors of each function in turn.
+fn run_text(text: &[u8]) {
+    let a = run_one_output(text);
     let b = report(Function::FrechetExpm, b"frechet_expm", text, a.at, a.line);
-    let c = report(Function::CondExpm, b"cond_expm", text, b.at, b.line);
-    write_rest(text, c);
+    let c = report(Function::FrechetLogm, b"frechet_logm", text, b.at, b.line);
+    let d = report(Function::FrechetSqrtm, b"frechet_sqrtm", text, c.at, c.line);
+    let e = report(Function::CondExpm, b"cond_expm", text, d.at, d.line);
+    write_rest(text, e);
 }
 
 // Reads the whole text, for which there is room, and runs its vectors.

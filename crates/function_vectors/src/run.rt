@@ -5,6 +5,9 @@ ghost use lib.ListN.{length};
 use functions::condition::cond_expm;
 use functions::expm::expm;
 use functions::frechet::frechet_expm;
+use powers::cosm;
+use powers::powm;
+use powers::sinm;
 use recorded::after;
 use recorded::call::Shape;
 use recorded::call::number_list;
@@ -14,10 +17,21 @@ use recorded::outcome::same_call;
 use recorded::outcome::same_values;
 use recorded::tally::Verdict;
 use recorded::tally::judged;
+use roots::frechet_logm;
+use roots::frechet_sqrtm;
+use roots::logm;
+use roots::sqrtm;
 
 pub enum Function {
     Expm,
+    Logm,
+    Sqrtm,
+    Powm,
+    Cosm,
+    Sinm,
     FrechetExpm,
+    FrechetLogm,
+    FrechetSqrtm,
     CondExpm,
 }
 
@@ -41,6 +55,36 @@ fn expm_agrees(shape: Shape, a: &[f64], out: &mut [f64], w: &mut [f64], want: &[
     same_call(want, outcome, out, &[], &[], w)
 }
 
+fn logm_agrees(shape: Shape, a: &[f64], out: &mut [f64], w: &mut [f64], want: &[u8]) -> bool {
+    let answer = logm(shape.rows, shape.columns, a, out, w);
+    let outcome = answer.outcome;
+    same_call(want, outcome, out, &[], &[], w)
+}
+
+fn sqrtm_agrees(shape: Shape, a: &[f64], out: &mut [f64], w: &mut [f64], want: &[u8]) -> bool {
+    let answer = sqrtm(shape.rows, shape.columns, a, out, w);
+    let outcome = answer.outcome;
+    same_call(want, outcome, out, &[], &[], w)
+}
+
+fn powm_agrees(shape: Shape, a: &[f64], out: &mut [f64], w: &mut [f64], want: &[u8]) -> bool {
+    let answer = powm(shape.rows, shape.columns, a, shape.exponent, out, w);
+    let outcome = answer.outcome;
+    same_call(want, outcome, out, &[], &[], w)
+}
+
+fn cosm_agrees(shape: Shape, a: &[f64], out: &mut [f64], w: &mut [f64], want: &[u8]) -> bool {
+    let answer = cosm(shape.rows, shape.columns, a, out, w);
+    let outcome = answer.outcome;
+    same_call(want, outcome, out, &[], &[], w)
+}
+
+fn sinm_agrees(shape: Shape, a: &[f64], out: &mut [f64], w: &mut [f64], want: &[u8]) -> bool {
+    let answer = sinm(shape.rows, shape.columns, a, out, w);
+    let outcome = answer.outcome;
+    same_call(want, outcome, out, &[], &[], w)
+}
+
 fn frechet_expm_agrees(
     shape: Shape,
     a: &[f64],
@@ -51,6 +95,54 @@ fn frechet_expm_agrees(
     want: &[u8],
 ) -> bool {
     let answer = frechet_expm(
+        shape.rows,
+        shape.columns,
+        a,
+        shape.height,
+        shape.width,
+        e,
+        first,
+        second,
+        w,
+    );
+    let outcome = answer.outcome;
+    same_call(want, outcome, first, second, &[], w)
+}
+
+fn frechet_logm_agrees(
+    shape: Shape,
+    a: &[f64],
+    e: &[f64],
+    first: &mut [f64],
+    second: &mut [f64],
+    w: &mut [f64],
+    want: &[u8],
+) -> bool {
+    let answer = frechet_logm(
+        shape.rows,
+        shape.columns,
+        a,
+        shape.height,
+        shape.width,
+        e,
+        first,
+        second,
+        w,
+    );
+    let outcome = answer.outcome;
+    same_call(want, outcome, first, second, &[], w)
+}
+
+fn frechet_sqrtm_agrees(
+    shape: Shape,
+    a: &[f64],
+    e: &[f64],
+    first: &mut [f64],
+    second: &mut [f64],
+    w: &mut [f64],
+    want: &[u8],
+) -> bool {
+    let answer = frechet_sqrtm(
         shape.rows,
         shape.columns,
         a,
@@ -86,7 +178,14 @@ fn agrees(
 ) -> bool {
     match function {
         Function::Expm => expm_agrees(shape, a, first, w, want),
+        Function::Logm => logm_agrees(shape, a, first, w, want),
+        Function::Sqrtm => sqrtm_agrees(shape, a, first, w, want),
+        Function::Powm => powm_agrees(shape, a, first, w, want),
+        Function::Cosm => cosm_agrees(shape, a, first, w, want),
+        Function::Sinm => sinm_agrees(shape, a, first, w, want),
         Function::FrechetExpm => frechet_expm_agrees(shape, a, e, first, second, w, want),
+        Function::FrechetLogm => frechet_logm_agrees(shape, a, e, first, second, w, want),
+        Function::FrechetSqrtm => frechet_sqrtm_agrees(shape, a, e, first, second, w, want),
         Function::CondExpm => cond_expm_agrees(shape, a, w, want),
     }
 }

@@ -3,7 +3,7 @@
 use crate::call::{Call, Function, Function::*};
 
 /// Square matrices: an order and its numbers, row by row.
-const MATRICES: [(usize, &[f64]); 14] = [
+const MATRICES: [(usize, &[f64]); 15] = [
     // Order 1, at the edges of question 10.
     (1, &[4.0]),
     (1, &[-0.0]),
@@ -15,6 +15,8 @@ const MATRICES: [(usize, &[f64]); 14] = [
     // Eigenvalues below 0, or beside the numbers.
     (2, &[-1.0, 0.0, 0.0, -2.5]),
     (2, &[0.0, 1.5, -1.5, 0.0]),
+    // The iterations of roots run out of steps.
+    (2, &[-3.0, 0.0, 0.0, -2.5]),
     // Singular, and nearly so.
     (2, &[1.0, 2.0, 2.0, 4.0]),
     (2, &[1.0, 1.0, 1.0, 1.0000000001]),
