@@ -12,7 +12,6 @@
 //
 // These are the calls that are written out, and of each function's 3,000 vectors the first 45 that are done and the first 3 of each refusal, without
 // those near a power of two. Of the calls that are written out some lie near one; both counts of halvings agree there.
-ghost use mathlib.Core.Path.{_≡_};
 ghost use Prim.Native.Nat.{_≤_};
 ghost use lib.ListN.{length};
 

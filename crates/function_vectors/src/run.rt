@@ -1,6 +1,5 @@
 // One recorded vector: the call is made with slices of the recorded lengths, and what it gives is compared.
 ghost use mathlib.Core.Path.{_≡_};
-ghost use Prim.Native.Nat.{_≤_};
 ghost use lib.ListN.{length};
 use functions::condition::cond_expm;
 use functions::expm::expm;

@@ -8,7 +8,6 @@
 //
 // Of each function's 3,000 vectors these are the first 75 and the first 40 refusals, without lines of 12,000 bytes and more, and of those the
 // first refusal 4 and the first that is done; an output longer than 4,351 numbers is left out.
-ghost use mathlib.Core.Path.{_≡_};
 ghost use Prim.Native.Nat.{_≤_};
 ghost use lib.ListN.{length};
 
