@@ -34,20 +34,6 @@ const EXPONENTS: [f64; 10] = [0.0, 1.0, -1.0, 13.0, -7.0, 2.5, 0.5, 1e-15, 1e19,
 const DIRECTED: [(usize, &[f64], &[f64]); 2] =
     [(2, &[0.0, 1e200, 0.0, 0.0], &[0.0, 0.0, 1e200, 0.0]), (2, &[0.0, 1e100, 0.0, 0.0], &[0.0, 0.0, 1e250, 0.0])];
 
-fn call(function: Function, n: usize, matrix: &[f64], direction: &[f64], exponent: f64) -> Call {
-    let mut c = Call::new(function);
-    (c.rows, c.columns, c.room) = (n, n, 8192);
-    (c.matrix, c.exponent) = (matrix.to_vec(), exponent);
-    if function.directed() {
-        (c.companion_rows, c.companion_columns) = (n, n);
-        c.companion = direction.to_vec();
-    }
-    for i in 0..function.output_count() {
-        c.outputs[i] = n * n;
-    }
-    c
-}
-
 /// The direction with entries 1, 2, 3 and so on.
 fn counting(n: usize) -> Vec<f64> {
     (1..=n * n).map(|k| k as f64).collect()
@@ -58,13 +44,13 @@ pub fn given(function: Function) -> Vec<Call> {
     let mut calls = Vec::new();
     for (n, matrix) in MATRICES {
         if function == Powm {
-            calls.extend(EXPONENTS.map(|p| call(function, n, matrix, &[], p)));
+            calls.extend(EXPONENTS.map(|p| Call::coded(function, n, matrix, &[], p)));
         } else {
-            calls.push(call(function, n, matrix, &counting(n), 0.0));
+            calls.push(Call::coded(function, n, matrix, &counting(n), 0.0));
         }
     }
     if function == FrechetExpm {
-        calls.extend(DIRECTED.map(|(n, matrix, direction)| call(function, n, matrix, direction, 0.0)));
+        calls.extend(DIRECTED.map(|(n, matrix, direction)| Call::coded(function, n, matrix, direction, 0.0)));
     }
     calls
 }
