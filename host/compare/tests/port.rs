@@ -6,6 +6,14 @@ use compare::expected::expected;
 use compare::run::run;
 use compare::samples::samples;
 
+/// `cargo test --quiet` does not say why tests are ignored. What is written to standard error itself is shown.
+#[test]
+#[cfg(not(port))]
+fn the_port_is_not_there() {
+    use std::io::Write;
+    writeln!(std::io::stderr(), "the port was not compared: {ABSENT}").unwrap();
+}
+
 #[test]
 #[cfg_attr(not(port), ignore = "the port's static library is not there")]
 fn the_port_gives_the_samples() {
