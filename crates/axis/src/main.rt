@@ -1,0 +1,9 @@
+// Reads a sheet on standard input and writes a line for each task. An accepted sheet has at most 4,708 bytes, so that what a longer input has past
+// the buffer changes nothing.
+fn main() {
+    let mut input = io::large_buffer();
+    let n = io::read_full(0, &mut input);
+    let mut lines = io::large_buffer();
+    let k = sheet::axis_sheet(&input[..n], &mut lines);
+    io::write_all(1, &lines[..k]);
+}

@@ -1,0 +1,79 @@
+-- `derivative_line` meets its contract. Assumes nothing.
+use mathlib.Core.Path.{ap, _∙_}
+use mathlib.Core.List.{List}
+use denote.Ref.{now}
+use lib.Ieee.{Float, binary64}
+use Prim.Native.Nat.{ℕ, _*_}
+use Rattle.functions.proofs.ConditionLaws.{square-le8}
+use Rattle.sheet.specs.Bytes.{numbersAt}
+use Rattle.sheet.specs.Tasks.{derivativeFor, both}
+use Rattle.sheet.proofs.FewLaws.{few-derivative, few-reported}
+use Rattle.sheet.proofs.TaskLaws.{carried-both, lined-as}
+use native.Mathlib.Omega.{arith}
+use borrow.Author.Needs.{needs}
+use Rattle.sheet.proofs.task.derivative_line.Statement.{statement}
+use Rattle.sheet.proofs.task.derivative_line.Tie as tie
+
+direction-at-requires : tie.Need-direction-at-requires
+direction-at-requires c κs = search needs
+
+read-numbers-requires : tie.Need-read-numbers-requires
+read-numbers-requires c κs = search needs
+
+derivative-requires : tie.Need-derivative-requires
+derivative-requires c κs = search needs
+
+put-answer-requires : tie.Need-put-answer-requires
+put-answer-requires c κs =
+    let b = c .before .before .before .before .before .before .before .before .before .before .before .before .before .before .before .before .before .before .before .before .before .before .before .before .before .before in
+    let a = b .args in
+    let v = c .before .before .before .before .before .before .before .before .before .derivative in
+    let e = c .before .before .before .before .before .before .before .before .before .before .before .before .before .before .before .before .read-numbers .last .1 .1 .0 in
+    record {
+      space = b .pre .0 .space;
+      number = b .pre .0 .number;
+      few = few-reported (derivativeFor binary64 (a .n) (now (a .a)) e (a .code)) (v .result .outcome) (few-derivative (a .n) (now (a .a)) e (a .code)) (v .ensures .outcome);
+      numbers = omega (arith, square-le8 (a .n) (b .pre .0 .order), b .pre .1 .0 .1, b .pre .1 .0 .2, v .kept .1 .1 .1 .1 .0, v .kept .1 .1 .1 .1 .1 .0);
+    }
+
+same-length : tie.Need-same-length
+same-length c = search needs
+
+same-length-2 : tie.Need-same-length-2
+same-length-2 c = search needs
+
+same-length-3 : tie.Need-same-length-3
+same-length-3 c = search needs
+
+same-length-4 : tie.Need-same-length-4
+same-length-4 c = search needs
+
+same-length-5 : tie.Need-same-length-5
+same-length-5 c = search needs
+
+returns : tie.Need-returns
+returns c =
+    let b = c .before .before .before .before .before .before .before .before .before .before .before .before .before .before .before .before .before .before .before .before .before .before .before .before .before .before .before .before .before in
+    let a = b .args in
+    let v = c .before .before .before .before .before .before .before .before .before .before .before .before .derivative in
+    let r = c .before .before .before .before .before .before .before .before .before .before .before .before .before .before .before .before .before .before .before .read-numbers in
+    let e = r .last .1 .1 .0 in
+    let at = ap (λ (q : ℕ). numbersAt binary64 (now (a .s)) q (a .n * a .n)) (c .before .before .before .before .before .before .before .before .before .before .before .before .before .before .before .before .before .before .before .before .before .direction-at .ensures .0) in
+    let read = r .ensures ∙ ap (λ (k : ℕ). numbersAt binary64 (now (a .s)) (c .before .before .before .before .before .before .before .before .before .before .before .before .before .before .before .before .before .before .before .before .before .direction-at .result) k) (b .pre .1 .0 .0) ∙ at in
+    let same = ap (λ (y : List Float). both (derivativeFor binary64 (a .n) (now (a .a)) y (a .code))) read in
+    lined-as binary64 (a .task) (carried-both (derivativeFor binary64 (a .n) (now (a .a)) e (a .code)) (v .result .outcome) (now (a .x)) (v .last .1 .1 .1 .1 .0) (now (a .y)) (v .last .1 .1 .1 .1 .1 .0) (v .ensures .outcome) (v .ensures .value) (v .ensures .derivative) ∙ same) (c .before .before .put-answer .ensures)
+
+pub derivative-line-spec : {M : Type 1} → statement M
+derivative-line-spec =
+    tie.close
+    (tie.spec
+    direction-at-requires
+    read-numbers-requires
+    derivative-requires
+    put-answer-requires
+    same-length
+    same-length-2
+    same-length-3
+    same-length-4
+    same-length-5
+    returns)

@@ -1,0 +1,5 @@
+pub mod Bytes
+pub mod Text
+pub mod Wrote
+pub mod Parse
+pub mod Tasks

@@ -1,0 +1,116 @@
+-- What the tasks of a sheet give, and the bytes that are written. Definitions only.
+use Prim.Native.Nat.{ℕ, zero, suc, _+_, _*_, _≤_, _<_}
+use mathlib.Core.Bool.{cond}
+use mathlib.Core.Path.{_≡_}
+use mathlib.Core.List.{List, [], _∷_, _++_}
+use lib.Dec.{eqb, ltb}
+use lib.ListN.{length, drop}
+use lib.Ieee.{Float, Format, binary64}
+use Rattle.arithmetic.specs.Float.{+zero}
+use Rattle.arithmetic.specs.Result.{Result, refused, done}
+use Rattle.arithmetic.specs.Outputs.{Both}
+use Rattle.functions.specs.Derivatives.{Condition}
+use Rattle.functions.specs.Calls.{expm, logm, sqrtm, powm, cosm, sinm, frechetExpm, frechetLogm, frechetSqrtm, condExpm}
+use Rattle.sheet.specs.declared.parse.Parse.{Parse}
+use Rattle.sheet.specs.declared.parse.Parse.the-variants.{Sheet, Refused}
+use Rattle.sheet.specs.Bytes.{byteAt, numberAt, numbersAt}
+use Rattle.sheet.specs.Text.{refusedLine, resultLine}
+use Rattle.sheet.specs.Parse.{parseSheet, directionsAt, exponentsAt, tasksAt}
+
+-- ---- one task: n by n matrices, outputs of n * n numbers, a workspace of 8,192
+
+-- codes 0 to 5, of the matrix a; p is the exponent of code 3
+unfoldable pub valueFor : Format → ℕ → List Float → Float → ℕ → Result (List Float)
+valueFor f n a p code =
+    cond (eqb code 0) (expm f n n a (n * n) 8192)
+    (cond (eqb code 1) (logm f n n a (n * n) 8192)
+    (cond (eqb code 2) (sqrtm f n n a (n * n) 8192)
+    (cond (eqb code 3) (powm f n n a (n * n) 8192 p)
+    (cond (eqb code 4) (cosm f n n a (n * n) 8192)
+    (sinm f n n a (n * n) 8192)))))
+
+-- codes 6 to 8, of the matrix a in the direction e
+unfoldable pub derivativeFor : Format → ℕ → List Float → List Float → ℕ → Result Both
+derivativeFor f n a e code =
+    cond (eqb code 6) (frechetExpm f n n a n n e (n * n) (n * n) 8192)
+    (cond (eqb code 7) (frechetLogm f n n a n n e (n * n) (n * n) 8192)
+    (frechetSqrtm f n n a n n e (n * n) (n * n) 8192))
+
+-- a result with its outputs as one list: the first before the second, and of a condition the ratio only
+unfoldable pub both : Result Both → Result (List Float)
+both (refused k x y) = refused k x y
+both (done s b) = done s (b .value ++ b .derivative)
+
+unfoldable pub ratio : Result Condition → Result (List Float)
+ratio (refused k x y) = refused k x y
+ratio (done s c) = done s (c .ratio ∷ [])
+
+-- direction i and exponent i of a sheet of order n with d directions
+abbrev pub directionAt : ℕ → ℕ → ℕ
+directionAt n i = directionsAt n + 1 + i * (8 * (n * n))
+
+abbrev pub exponentAt : ℕ → ℕ → ℕ → ℕ
+exponentAt n d i = exponentsAt n d + 1 + i * 8
+
+-- the exponent at p where the code is 3, and +0 otherwise
+abbrev pub exponentFor : Format → List ℕ → ℕ → ℕ → Float
+exponentFor f s code p = cond (eqb code 3) (numberAt f s p) +zero
+
+-- what the task with this code and index gives
+unfoldable pub taskResult : Format → List ℕ → ℕ → ℕ → ℕ → ℕ → Result (List Float)
+taskResult f s n d code i =
+    let a = numbersAt f s 1 (n * n) in
+    cond (ltb code 6) (valueFor f n a (exponentFor f s code (exponentAt n d i)) code)
+    (cond (ltb code 9) (both (derivativeFor f n a (numbersAt f s (directionAt n i) (n * n)) code))
+    (ratio (condExpm f n n a 8192)))
+
+-- ---- the lines
+
+-- the first k tasks of those from q on
+unfoldable pub taskLines : Format → List ℕ → ℕ → ℕ → ℕ → ℕ → List ℕ
+taskLines f s n d q zero = []
+taskLines f s n d q (suc k) = taskLines f s n d q k ++ resultLine f (suc k) (taskResult f s n d (byteAt s (q + 2 * k)) (byteAt s (q + 2 * k + 1)))
+
+-- a refused sheet has one line, with task number 0
+unfoldable pub linesOf : Format → List ℕ → Parse → List ℕ
+linesOf f s (Sheet n d e t) = taskLines f s n d (tasksAt n d e + 1) t
+linesOf f s (Refused k p) = refusedLine 0 k p 0
+
+-- all that is written for the sheet s
+unfoldable pub sheetLines : Format → List ℕ → List ℕ
+sheetLines f s = linesOf f s (parseSheet s)
+
+-- ---- what functions ask for and leave
+
+-- a task's place on the output, its order, its matrix and its workspace
+pub record TaskRoom (out : List ℕ) (at task n : ℕ) (a w : List Float) : Type 0 where
+  pub space : at + 2187 ≤ length out
+  pub number : task ≤ 16
+  pub order : n ≤ 8
+  pub matrix : length a ≡ n * n
+  pub workspace : length w ≡ 8192
+
+-- where the task at q names an exponent or a direction, that is there
+pub record TaskReady (s : List ℕ) (q n d : ℕ) : Type 0 where
+  pub there : q + 1 < length s
+  pub directions : d ≤ 8
+  pub exponent : byteAt s q ≡ 3 → exponentAt n d (byteAt s (q + 1)) + 8 ≤ length s
+  pub direction : 6 ≤ byteAt s q → byteAt s q < 9 → directionAt n (byteAt s (q + 1)) + 8 * (n * n) ≤ length s
+  pub index : 6 ≤ byteAt s q → byteAt s q < 9 → byteAt s (q + 1) ≤ 8
+
+-- what running the t tasks from q on asks for: they are ready, a is the sheet's matrix, there is room
+pub record TasksRoom (s : List ℕ) (q n d t : ℕ) (out : List ℕ) (a w : List Float) : Type 0 where
+  pub ready : (k : ℕ) → k < t → TaskReady s (q + 2 * k) n d
+  pub few : t ≤ 16
+  pub order : n ≤ 8
+  pub matrix : a ≡ numbersAt binary64 s 1 (n * n)
+  pub space : 35000 ≤ length out
+  pub workspace : length w ≡ 8192
+
+-- An output of fewer than 35,000 bytes is left as it was, and 0 reported. Any other begins with the lines, and is as it was after them. There are never
+-- more than 35,000 bytes of lines.
+pub record Entered (f : Format) (s out out′ : List ℕ) (r : ℕ) : Type 0 where
+  pub refused : length out < 35000 → (r ≡ 0) × (out′ ≡ out)
+  pub written : 35000 ≤ length out → (r ≡ length (sheetLines f s)) × (out′ ≡ sheetLines f s ++ drop (length (sheetLines f s)) out)
+  pub within : r ≤ length out
+  pub short : r ≤ 35000

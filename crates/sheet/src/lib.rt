@@ -1,0 +1,33 @@
+// The sheet: its bytes read, its tasks run, a line written for each.
+ghost use lib.ListN.{length};
+ghost use mathlib.Core.Path.{_≡_};
+ghost use lib.Ieee.{binary64};
+ghost use Rattle.sheet.specs.Tasks.{Entered};
+
+pub mod line;
+pub mod parse;
+pub mod position;
+pub mod reading;
+pub mod run;
+pub mod task;
+pub mod writing;
+
+// Room for a workspace.
+fn workspace_room() -> [f64; 8192]
+    ensures { λ r. ⌜ 8192 ≡ length r ⌝ }
+{
+    [0.0f64; 8192]
+}
+
+// The lines of the sheet's tasks are written to out, and the number of bytes written is reported. An out of fewer than 35,000 bytes is refused
+// before the sheet is read: 0 is reported, and no byte written.
+#[no_mangle]
+pub extern "C" fn axis_sheet(sheet: &[u8], out: &mut [u8]) -> usize
+    ensures { λ r. ⌜ Entered binary64 (now (sheet .entry)) (now (out .entry)) (now (out .exit)) r ⌝ }
+{
+    if out.len() < 35000 {
+        return 0;
+    }
+    let mut w = workspace_room();
+    run::run(sheet, out, &mut w)
+}

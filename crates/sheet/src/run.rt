@@ -1,0 +1,118 @@
+// A sheet from its bytes to its lines.
+ghost use mathlib.Core.Path.{_≡_};
+ghost use Prim.Native.Nat.{_+_, _*_, _≤_};
+ghost use lib.ListN.{length};
+ghost use lib.Ieee.{binary64};
+ghost use Rattle.sheet.specs.Parse.{SheetIs, tasksAt};
+ghost use Rattle.sheet.specs.Tasks.{taskLines, sheetLines, TasksRoom};
+ghost use Rattle.sheet.specs.Wrote.{AllLines};
+use crate::line::coded;
+use crate::line::put_refused;
+use crate::parse::Parse;
+use crate::parse::parse_sheet;
+use crate::position::exponent_at;
+use crate::reading::read_numbers;
+use crate::task::run_task;
+
+// Room for a matrix of order up to 8.
+fn matrix_room() -> [f64; 64]
+    ensures { λ r. ⌜ 64 ≡ length r ⌝ }
+{
+    [0.0f64; 64]
+}
+
+// The lines of t tasks, the first at q. A refused task has its line like any other, and the next is run.
+fn run_tasks(
+    s: &[u8],
+    q: usize,
+    n: usize,
+    d: usize,
+    t: usize,
+    out: &mut [u8],
+    a: &[f64],
+    e: &mut [f64],
+    x: &mut [f64],
+    y: &mut [f64],
+    w: &mut [f64],
+) -> usize
+    requires { ⌜ TasksRoom (now s) q n d t (now out) (now a) (now w) ⌝ }
+    requires { ⌜ (length (now e) ≡ n * n) × (length (now x) ≡ n * n) × (length (now y) ≡ n * n) ⌝ }
+    ensures { λ r. ⌜ AllLines (now (out .entry)) (taskLines binary64 (now (s .entry)) n d q t) (now (out .exit)) r ⌝ }
+{
+    let mut at = 0;
+    let mut k = 0;
+    while k < t {
+        at = run_task(s, q + 2 * k, n, d, out, at, k + 1, a, e, x, y, w);
+        k += 1;
+    }
+    at
+}
+
+// The lines of an accepted sheet. a, x, y and z are room for its matrix, a direction and two outputs.
+fn run_in(
+    s: &[u8],
+    n: usize,
+    d: usize,
+    e: usize,
+    t: usize,
+    out: &mut [u8],
+    a: &mut [f64],
+    x: &mut [f64],
+    y: &mut [f64],
+    z: &mut [f64],
+    w: &mut [f64],
+) -> usize
+    requires { ⌜ SheetIs (now s) n d e t ⌝ }
+    requires { ⌜ (35000 ≤ length (now out)) × (length (now w) ≡ 8192) ⌝ }
+    requires { ⌜ (length (now a) ≡ n * n) × (length (now x) ≡ n * n) × (length (now y) ≡ n * n) × (length (now z) ≡ n * n) ⌝ }
+    ensures { λ r. ⌜ AllLines (now (out .entry)) (taskLines binary64 (now (s .entry)) n d (tasksAt n d e + 1) t) (now (out .exit)) r ⌝ }
+{
+    read_numbers(s, 1, a);
+    let q = exponent_at(n, d, e) + 1;
+    run_tasks(s, q, n, d, t, out, a, x, y, z, w)
+}
+
+// `run_in` with room of its own.
+fn run_with_room(
+    s: &[u8],
+    n: usize,
+    d: usize,
+    e: usize,
+    t: usize,
+    out: &mut [u8],
+    w: &mut [f64],
+) -> usize
+    requires { ⌜ SheetIs (now s) n d e t ⌝ }
+    requires { ⌜ (35000 ≤ length (now out)) × (length (now w) ≡ 8192) ⌝ }
+    ensures { λ r. ⌜ AllLines (now (out .entry)) (taskLines binary64 (now (s .entry)) n d (tasksAt n d e + 1) t) (now (out .exit)) r ⌝ }
+{
+    let count = n * n;
+    let mut a = matrix_room();
+    let mut x = matrix_room();
+    let mut y = matrix_room();
+    let mut z = matrix_room();
+    run_in(
+        s,
+        n,
+        d,
+        e,
+        t,
+        out,
+        &mut a[..count],
+        &mut x[..count],
+        &mut y[..count],
+        &mut z[..count],
+        w,
+    )
+}
+
+// The lines of a sheet.
+pub fn run(s: &[u8], out: &mut [u8], w: &mut [f64]) -> usize
+    requires { ⌜ (35000 ≤ length (now out)) × (length (now w) ≡ 8192) ⌝ }
+    ensures { λ r. ⌜ AllLines (now (out .entry)) (sheetLines binary64 (now (s .entry))) (now (out .exit)) r ⌝ }
+{
+    match parse_sheet(s) {
+        Parse::Refused(k, p) => put_refused(out, 0, 0, coded(k, p, 0)),
+        Parse::Sheet(n, d, e, t) => run_with_room(s, n, d, e, t, out, w),
+    }
+}

@@ -1,0 +1,180 @@
+// One task: its function is called, and its line written.
+ghost use mathlib.Core.Path.{_≡_};
+ghost use mathlib.Core.List.{[]};
+ghost use Prim.Native.Nat.{_+_, _*_, _≤_, _<_};
+ghost use lib.ListN.{length};
+ghost use lib.Ieee.{binary64};
+ghost use Rattle.arithmetic.specs.Outputs.{OneOutputIn, TwoOutputsIn};
+ghost use Rattle.functions.specs.Calls.{condExpm};
+ghost use Rattle.sheet.specs.Bytes.{byteAt, numbersAt};
+ghost use Rattle.sheet.specs.Text.{resultLine};
+ghost use Rattle.sheet.specs.Tasks.{valueFor, derivativeFor, both, ratio, directionAt, exponentAt, exponentFor, taskResult, TaskRoom, TaskReady};
+ghost use Rattle.sheet.specs.Wrote.{Lined};
+use crate::line::put_answer;
+use crate::position::direction_at;
+use crate::position::exponent_at;
+use crate::reading::read_number;
+use crate::reading::read_numbers;
+use arithmetic::answer::Answer;
+use functions::condition::cond_expm;
+use functions::expm::expm;
+use functions::frechet::frechet_expm;
+use powers::cosm;
+use powers::powm;
+use powers::sinm;
+use roots::frechet_logm;
+use roots::frechet_sqrtm;
+use roots::logm;
+use roots::sqrtm;
+
+// The function with a code from 0 to 5 of the n by n matrix a is written to x. p is the exponent of code 3.
+fn value(code: usize, n: usize, a: &[f64], p: f64, x: &mut [f64], w: &mut [f64]) -> Answer
+    requires { ⌜ (length (now x) ≡ n * n) × (length (now w) ≡ 8192) ⌝ }
+    ensures { λ r. ⌜ OneOutputIn (valueFor binary64 n (now (a .entry)) p code) (r .outcome) (now (x .entry)) (now (x .exit)) (now (w .entry)) (now (w .exit)) ⌝ }
+{
+    if code == 0 {
+        return expm(n, n, a, x, w);
+    }
+    if code == 1 {
+        return logm(n, n, a, x, w);
+    }
+    if code == 2 {
+        return sqrtm(n, n, a, x, w);
+    }
+    if code == 3 {
+        return powm(n, n, a, p, x, w);
+    }
+    if code == 4 {
+        return cosm(n, n, a, x, w);
+    }
+    sinm(n, n, a, x, w)
+}
+
+// The function with a code from 6 to 8 of the n by n matrix a and its derivative in the direction e are written to x and y.
+fn derivative(
+    code: usize,
+    n: usize,
+    a: &[f64],
+    e: &[f64],
+    x: &mut [f64],
+    y: &mut [f64],
+    w: &mut [f64],
+) -> Answer
+    requires { ⌜ (length (now x) ≡ n * n) × (length (now y) ≡ n * n) × (length (now w) ≡ 8192) ⌝ }
+    ensures { λ r. ⌜ TwoOutputsIn (derivativeFor binary64 n (now (a .entry)) (now (e .entry)) code) (r .outcome) (now (x .entry)) (now (x .exit)) (now (y .entry)) (now (y .exit)) (now (w .entry)) (now (w .exit)) ⌝ }
+{
+    if code == 6 {
+        return frechet_expm(n, n, a, n, n, e, x, y, w);
+    }
+    if code == 7 {
+        return frechet_logm(n, n, a, n, n, e, x, y, w);
+    }
+    frechet_sqrtm(n, n, a, n, n, e, x, y, w)
+}
+
+// The exponent at p where the code is 3.
+fn exponent_for(s: &[u8], code: usize, p: usize) -> f64
+    requires { ⌜ (code ≡ 3 → p + 8 ≤ length (now s)) ⌝ }
+    ensures { λ r. ⌜ r ≡ exponentFor binary64 (now (s .entry)) code p ⌝ }
+{
+    if code == 3 { read_number(s, p) } else { 0.0 }
+}
+
+// The line of a code from 0 to 5 with its index.
+fn value_line(
+    s: &[u8],
+    code: usize,
+    index: usize,
+    n: usize,
+    d: usize,
+    out: &mut [u8],
+    at: usize,
+    task: usize,
+    a: &[f64],
+    x: &mut [f64],
+    w: &mut [f64],
+) -> usize
+    requires { ⌜ TaskRoom (now out) at task n (now a) (now w) ⌝ }
+    requires { ⌜ (length (now x) ≡ n * n) × (d ≤ 8) × (index < 256) × (code ≡ 3 → exponentAt n d index + 8 ≤ length (now s)) ⌝ }
+    ensures { λ r. ⌜ Lined (now (out .entry)) at (resultLine binary64 task (valueFor binary64 n (now (a .entry)) (exponentFor binary64 (now (s .entry)) code (exponentAt n d index)) code)) (now (out .exit)) r ⌝ }
+{
+    let p = exponent_for(s, code, exponent_at(n, d, index));
+    let answer = value(code, n, a, p, x, w);
+    let outcome = answer.outcome;
+    put_answer(out, at, task, outcome, x, &[])
+}
+
+// The line of a code from 6 to 8 with its index. The direction is read to e.
+fn derivative_line(
+    s: &[u8],
+    code: usize,
+    index: usize,
+    n: usize,
+    out: &mut [u8],
+    at: usize,
+    task: usize,
+    a: &[f64],
+    e: &mut [f64],
+    x: &mut [f64],
+    y: &mut [f64],
+    w: &mut [f64],
+) -> usize
+    requires { ⌜ TaskRoom (now out) at task n (now a) (now w) ⌝ }
+    requires { ⌜ (length (now e) ≡ n * n) × (length (now x) ≡ n * n) × (length (now y) ≡ n * n) ⌝ }
+    requires { ⌜ (index ≤ 8) × (directionAt n index + 8 * (n * n) ≤ length (now s)) ⌝ }
+    ensures { λ r. ⌜ Lined (now (out .entry)) at (resultLine binary64 task (both (derivativeFor binary64 n (now (a .entry)) (numbersAt binary64 (now (s .entry)) (directionAt n index) (n * n)) code))) (now (out .exit)) r ⌝ }
+{
+    read_numbers(s, direction_at(n, index), e);
+    let answer = derivative(code, n, a, e, x, y, w);
+    let outcome = answer.outcome;
+    put_answer(out, at, task, outcome, x, y)
+}
+
+// The line of code 9.
+fn condition_line(
+    out: &mut [u8],
+    at: usize,
+    task: usize,
+    n: usize,
+    a: &[f64],
+    w: &mut [f64],
+) -> usize
+    requires { ⌜ TaskRoom (now out) at task n (now a) (now w) ⌝ }
+    ensures { λ r. ⌜ Lined (now (out .entry)) at (resultLine binary64 task (ratio (condExpm binary64 n n (now (a .entry)) 8192))) (now (out .exit)) r ⌝ }
+{
+    let answer = cond_expm(n, n, a, w);
+    let outcome = answer.outcome;
+    let ratio = [answer.ratio; 1];
+    put_answer(out, at, task, outcome, &ratio, &[])
+}
+
+// The line of the task at q. e, x and y are room for a direction and two outputs.
+pub fn run_task(
+    s: &[u8],
+    q: usize,
+    n: usize,
+    d: usize,
+    out: &mut [u8],
+    at: usize,
+    task: usize,
+    a: &[f64],
+    e: &mut [f64],
+    x: &mut [f64],
+    y: &mut [f64],
+    w: &mut [f64],
+) -> usize
+    requires { ⌜ TaskRoom (now out) at task n (now a) (now w) ⌝ }
+    requires { ⌜ TaskReady (now s) q n d ⌝ }
+    requires { ⌜ (now a ≡ numbersAt binary64 (now s) 1 (n * n)) × (length (now e) ≡ n * n) × (length (now x) ≡ n * n) × (length (now y) ≡ n * n) ⌝ }
+    ensures { λ r. ⌜ Lined (now (out .entry)) at (resultLine binary64 task (taskResult binary64 (now (s .entry)) n d (byteAt (now (s .entry)) q) (byteAt (now (s .entry)) (q + 1)))) (now (out .exit)) r ⌝ }
+{
+    let code = s[q] as usize;
+    let index = s[q + 1] as usize;
+    if code < 6 {
+        return value_line(s, code, index, n, d, out, at, task, a, x, w);
+    }
+    if code < 9 {
+        return derivative_line(s, code, index, n, out, at, task, a, e, x, y, w);
+    }
+    condition_line(out, at, task, n, a, w)
+}
