@@ -1,5 +1,5 @@
-// Reads a sheet on standard input and writes a line for each task. An accepted sheet has at most 4,708 bytes, so that what a longer input has past
-// the buffer changes nothing.
+// Reads a sheet on standard input and writes a line for each task. What an input has past the buffer changes nothing: the first 4,709 bytes decide
+// (`first-bytes` in crates/sheet/proofs/FirstBytes.antt).
 fn main() {
     let mut input = io::large_buffer();
     let n = io::read_full(0, &mut input);

@@ -7,3 +7,4 @@ pub mod LineLaws
 pub mod FewLaws
 pub mod TaskLaws
 pub mod SheetLaws
+pub mod FirstBytes

@@ -54,13 +54,13 @@ same-value : (v u : ℕ) → Value v ≡ Value u → v ≡ u
 same-value v u h = cc
 
 -- a byte in range
-record ByteIs (s : List ℕ) (p lo hi v : ℕ) : Type 0 where
-  there : p < length s
-  byte : byteAt s p ≡ v
-  least : lo ≤ v
-  below : v < hi
+pub record ByteIs (s : List ℕ) (p lo hi v : ℕ) : Type 0 where
+  pub there : p < length s
+  pub byte : byteAt s p ≡ v
+  pub least : lo ≤ v
+  pub below : v < hi
 
-byteIn-is : (s : List ℕ) (p lo hi v : ℕ) → byteIn s p lo hi ≡ Value v → ByteIs s p lo hi v
+pub byteIn-is : (s : List ℕ) (p lo hi v : ℕ) → byteIn s p lo hi ≡ Value v → ByteIs s p lo hi v
 unfolding byteIn
 byteIn-is s p lo hi v h =
     let x : ℕ = byteAt s p in
@@ -71,7 +71,7 @@ byteIn-is s p lo hi v h =
     record { there = ltb-true p (length s) (a .0); byte = e; least = rw e at (leb-true lo x (b .0)); below = rw e at (ltb-true x hi (c .0)) }
 
 -- a count and its items
-section-is : (s : List ℕ) (p hi size v : ℕ) → section s p hi size ≡ Value v → (v < hi) × (p + 1 + v * size ≤ length s)
+pub section-is : (s : List ℕ) (p hi size v : ℕ) → section s p hi size ≡ Value v → (v < hi) × (p + 1 + v * size ≤ length s)
 unfolding section
 section-is s p hi size v h =
     let g = went-step (byteIn s p 0 hi) (λ u. bytesAfter s (p + 1) (u * size) u) v h in
@@ -80,7 +80,7 @@ section-is s p hi size v h =
     let l : p + 1 + g .value * size ≤ length s = leb-true _ _ (k .0) in
     (rw e at (byteIn-is s p 0 hi (g .value) (g .is) .below), rw e at l)
 
-order-is : (s : List ℕ) (n : ℕ) → order s ≡ Value n → (1 ≤ n) × (n < 9) × (directionsAt n ≤ length s)
+pub order-is : (s : List ℕ) (n : ℕ) → order s ≡ Value n → (1 ≤ n) × (n < 9) × (directionsAt n ≤ length s)
 unfolding order
 order-is s n h =
     let g = went-step (byteIn s 0 1 9) (λ u. bytesAfter s 1 (8 * (u * u)) u) n h in
