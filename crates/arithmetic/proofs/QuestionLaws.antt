@@ -1,6 +1,6 @@
 -- Laws of the questions asked of a call. Assumes nothing.
 use Prim.Native.Nat.{ℕ, zero, suc, _+_, _*_, _≤_, _<_}
-use mathlib.Core.Path.{_≡_, refl, ap, sym, subst, _∙_}
+use mathlib.Core.Path.{_≡_, refl, ap, sym, _∙_}
 use mathlib.Core.Bool.{Bool, true, false, false≢true, cond, _&&_}
 use mathlib.Core.List.{List, [], _∷_, _++_, map}
 use mathlib.Core.Option.{Option, none, some}
@@ -9,13 +9,12 @@ use native.Mathlib.Omega.{arith}
 use lib.Arith.{digits-div, digits-mod}
 use lib.Dec.{T, ltb, leb, eqb}
 use lib.ListN.{length}
-use borrow.Author.Tests.{leb-true, ltb-true, eqb-true, eq-eqb}
-use lib.Ieee.{Float, le}
+use borrow.Author.Tests.{leb-true, ltb-true, eqb-true}
+use lib.Ieee.{Float}
 use lib.Ieee.Scale.{finite}
-use Rattle.arithmetic.specs.Float.{+zero}
 use Rattle.arithmetic.specs.Matrix.{item}
 use Rattle.arithmetic.specs.Result.{Result, refused, done, _>>=_, passes, ask, only, firstNo}
-use Rattle.arithmetic.specs.Questions.{Call, unary, nonnegative, directed, powered, binary, Companion, Profile, anywhere, inDomain, pivotsNamed, numberQuestions, asked, alone, direction, Domain, companionFits, atMost, limited, exactly, hasCompanion, hasPivots, outputLength, lengths, roomy, firstNonfinite, placed, allFinite, shapeQuestions, coded}
+use Rattle.arithmetic.specs.Questions.{Call, unary, directed, powered, binary, Companion, Profile, anywhere, inDomain, pivotsNamed, numberQuestions, asked, alone, direction, Domain, companionFits, atMost, limited, exactly, hasCompanion, hasPivots, outputLength, lengths, roomy, firstNonfinite, placed, allFinite, shapeQuestions, coded}
 use Rattle.arithmetic.specs.Answers.{numbered, scanned, found}
 use Rattle.arithmetic.specs.declared.answer.Refusal.{Refusal}
 use Rattle.arithmetic.specs.declared.answer.Refusal.the-variants.{EmptyMatrix, NotSquare, CompanionShape, TooLarge, WrongLength, EntryNotFinite, DirectionNotFinite, ExponentNotFinite, PivotOutOfRange, NotDefined, OrderOne, NormNotFinite, NotConverged, SingularColumn}
@@ -404,24 +403,3 @@ module _ (raised : Bool) (domain : Domain) (fromTwo : Bool) (c : Call) (q : Ques
         record { shape = shape; entries = entries-finite direction raised domain fromTwo c shape n },
         record { shape = fits; entries = direction-finite raised domain fromTwo c fits n },
       )
-
--- 8, 10 and 11, where they are asked
-module _ (beside : Companion) (c : Call) (q : Question) where
-  pub exponent-finite : (domain : Domain) (fromTwo : Bool) → found q ≡ asked (coded beside true domain fromTwo) c → q ≡ Passed → T (finite (c .exponent))
-  unfolding numberQuestions
-  exponent-finite domain fromTwo h e =
-      let (s, n) = passed beside true domain fromTwo c q h e in
-      subst T (sym (ask-yes (finite (c .exponent)) 8 0 0 (n .1 .1 .0))) tt
-
-  pub not-negative : (raised fromTwo : Bool) → found q ≡ asked (coded beside raised nonnegative fromTwo) c → q ≡ Passed → c .rows ≡ 1 → T (le +zero (item (c .matrix) 0))
-  unfolding numberQuestions
-  not-negative raised fromTwo h e one =
-      let (s, n) = passed beside raised nonnegative fromTwo c q h e in
-      let y : Yes (ask (le +zero (item (c .matrix) 0)) 10 0 0) = rw (eq-eqb (c .rows) 1 one) at (n .1 .1 .1 .1 .0) in
-      subst T (sym (ask-yes (le +zero (item (c .matrix) 0)) 10 0 0 y)) tt
-
-  pub from-two : (raised : Bool) (domain : Domain) → found q ≡ asked (coded beside raised domain true) c → q ≡ Passed → 2 ≤ c .rows
-  unfolding numberQuestions
-  from-two raised domain h e =
-      let (s, n) = passed beside raised domain true c q h e in
-      leb-true 2 (c .rows) (ask-yes _ 11 0 0 (n .1 .1 .1 .1 .1 .0))

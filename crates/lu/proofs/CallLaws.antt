@@ -46,7 +46,7 @@ module _ (f : Format) (n : ℕ) (a w : List Float) (size : length a ≡ n * n) (
         pivots = d .pivots ∙ ap (λ (l : List Float). patch 0 (columns n r) (luPivot f n l) ps) c;
       }
 
-  module _ (small : n ≤ 64) (rows : List ℕ) (w1 : List Float) (rows1 : List ℕ) (r : LuOutcome) (d : FactoredCopy f n a w rows w1 rows1 r) (few : n * n ≤ 4096) where
+  module _ (rows : List ℕ) (w1 : List Float) (rows1 : List ℕ) (r : LuOutcome) (d : FactoredCopy f n a w rows w1 rows1 r) (few : n * n ≤ 4096) where
     within : Only (λ s. ltb s 32) w w1
     unfolding store
     within =

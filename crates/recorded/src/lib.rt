@@ -1,7 +1,12 @@
-// Reading recorded vectors: hexadecimal numbers in a text, one separator after each.
+// Reading recorded vectors: hexadecimal numbers in a text, one separator after each. The modules hold what programs that run calls share.
 ghost use Prim.Native.Nat.{_≤_};
 ghost use lib.ListN.{length};
 ghost use Rattle.recorded.specs.Within.{Within};
+
+pub mod call;
+pub mod outcome;
+pub mod tally;
+
 use arithmetic::float::bits_of;
 use arithmetic::float::float_of;
 
@@ -81,6 +86,12 @@ pub fn begins(s: &[u8], t: &[u8]) -> bool {
         i += 1;
     }
     true
+}
+
+// Whether a line is a vector of the function of this name.
+pub fn is_of(line: &[u8], name: &[u8]) -> bool {
+    let n = name.len();
+    n < line.len() && line[n] == b' ' && begins(line, name)
 }
 
 // Reads as many whole numbers as `into` has places, and answers where the next one starts.

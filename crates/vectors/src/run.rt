@@ -1,22 +1,19 @@
 // One recorded vector: the call is made with slices of the recorded lengths, and what it gives is compared.
 ghost use mathlib.Core.Path.{_≡_};
 ghost use lib.ListN.{length};
-use crate::call::Shape;
-use crate::call::count_list;
-use crate::call::number_list;
-use crate::call::read_shape;
-use crate::outcome::LENT;
-use crate::outcome::LENT_PIVOT;
-use crate::outcome::cleared_to;
-use crate::outcome::pivots_as_lent;
-use crate::outcome::recorded_outcome;
-use crate::outcome::report_of;
-use crate::outcome::same_answer;
-use crate::outcome::same_outputs;
-use crate::outcome::same_report;
 use functions::kronecker::kron;
 use functions::kronecker::kron_sum;
 use recorded::after;
+use recorded::call::Shape;
+use recorded::call::count_list;
+use recorded::call::number_list;
+use recorded::call::read_shape;
+use recorded::outcome::LENT;
+use recorded::outcome::LENT_PIVOT;
+use recorded::outcome::same_call;
+use recorded::outcome::same_values;
+use recorded::tally::Verdict;
+use recorded::tally::judged;
 
 pub enum Function {
     Compute,
@@ -24,13 +21,6 @@ pub enum Function {
     Determinant,
     Kron,
     KronSum,
-}
-
-// What a vector shows. It is skipped where its lists are longer than the room that is kept here.
-pub enum Verdict {
-    Same,
-    Differs,
-    Skipped,
 }
 
 // Room for a matrix, each number as it is lent.
@@ -54,19 +44,6 @@ fn pivot_room() -> [usize; 72]
     [LENT_PIVOT; 72]
 }
 
-fn judged(same: bool) -> Verdict {
-    if same {
-        Verdict::Same
-    } else {
-        Verdict::Differs
-    }
-}
-
-// How many numbers of the workspace a call clears that ends with this number: all 8,192 where it is done or refused by 14.
-fn cleared_after(number: u64) -> usize {
-    if number == 0 || number == 14 { 8192 } else { 0 }
-}
-
 fn compute_agrees(
     shape: Shape,
     a: &[f64],
@@ -77,20 +54,7 @@ fn compute_agrees(
 ) -> bool {
     let answer = lu::compute(shape.rows, shape.columns, a, factors, pivots, w);
     let outcome = answer.outcome;
-    let report = report_of(outcome);
-    let recorded = recorded_outcome(want);
-    let wanted = recorded.report;
-    if !same_report(report, wanted) {
-        return false;
-    }
-    if !cleared_to(w, cleared_after(report.number)) {
-        return false;
-    }
-    if report.number == 0 {
-        same_outputs(want, recorded.next, factors, pivots)
-    } else {
-        cleared_to(factors, 0) && pivots_as_lent(pivots) && recorded.next == want.len()
-    }
+    same_call(want, outcome, factors, &[], pivots, w)
 }
 
 fn run_compute(shape: Shape, a: &[f64], count: usize, want: &[u8]) -> Verdict {
@@ -137,7 +101,7 @@ fn solve_agrees(
         out,
     );
     let outcome = answer.outcome;
-    same_answer(want, outcome, out)
+    same_call(want, outcome, out, &[], &[], &[])
 }
 
 fn kron_agrees(shape: Shape, a: &[f64], b: &[f64], out: &mut [f64], want: &[u8]) -> bool {
@@ -151,7 +115,7 @@ fn kron_agrees(shape: Shape, a: &[f64], b: &[f64], out: &mut [f64], want: &[u8])
         out,
     );
     let outcome = answer.outcome;
-    same_answer(want, outcome, out)
+    same_call(want, outcome, out, &[], &[], &[])
 }
 
 fn kron_sum_agrees(shape: Shape, a: &[f64], b: &[f64], out: &mut [f64], want: &[u8]) -> bool {
@@ -165,7 +129,7 @@ fn kron_sum_agrees(shape: Shape, a: &[f64], b: &[f64], out: &mut [f64], want: &[
         out,
     );
     let outcome = answer.outcome;
-    same_answer(want, outcome, out)
+    same_call(want, outcome, out, &[], &[], &[])
 }
 
 fn run_solve(shape: Shape, f: &[f64], b: &[f64], pivots: &[usize], want: &[u8]) -> Verdict {
@@ -195,22 +159,11 @@ fn run_kron_sum(shape: Shape, a: &[f64], b: &[f64], want: &[u8]) -> Verdict {
     judged(kron_sum_agrees(shape, a, b, &mut out[..output], want))
 }
 
-// The determinant is +0 beside a refusal.
 fn run_determinant(shape: Shape, f: &[f64], pivots: &[usize], want: &[u8]) -> Verdict {
     let answer = lu::determinant(shape.rows, shape.columns, f, pivots);
     let outcome = answer.outcome;
-    let report = report_of(outcome);
-    let recorded = recorded_outcome(want);
-    let wanted = recorded.report;
-    if !same_report(report, wanted) {
-        return Verdict::Differs;
-    }
     let value = [answer.value; 1];
-    if report.number == 0 {
-        judged(same_outputs(want, recorded.next, &value, &[]))
-    } else {
-        judged(cleared_to(&value, 1) && recorded.next == want.len())
-    }
+    judged(same_values(want, outcome, &value, &[]))
 }
 
 // Runs a vector whose lists have been read; `want` is its outcome.

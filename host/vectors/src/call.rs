@@ -123,6 +123,21 @@ impl Call {
         }
     }
 
+    /// A call of a function that has a code, of order n, with outputs and a workspace that fit. The direction is taken where the function has one.
+    pub fn coded(function: Function, n: usize, matrix: &[f64], direction: &[f64], exponent: f64) -> Call {
+        let mut c = Call::new(function);
+        (c.rows, c.columns, c.room) = (n, n, 8192);
+        (c.matrix, c.exponent) = (matrix.to_vec(), exponent);
+        if function.directed() {
+            (c.companion_rows, c.companion_columns) = (n, n);
+            c.companion = direction.to_vec();
+        }
+        for i in 0..function.output_count() {
+            c.outputs[i] = n * n;
+        }
+        c
+    }
+
     /// The length that each lent output must have.
     pub fn output_length(&self) -> usize {
         match self.function {

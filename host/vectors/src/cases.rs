@@ -6,7 +6,7 @@ use crate::random::Random;
 use oracle::Lu;
 
 #[derive(Clone, Copy)]
-enum Kind {
+pub enum Kind {
     SmallIntegers,
     Normal,
     Scaled,
@@ -66,7 +66,7 @@ const ROOTED: [Kind; 4] = [NearIdentity, Definite, PositiveUpper, Shear];
 /// Kinds of entries for matrices that need not be square.
 const ENTRIES: [Kind; 9] = [SmallIntegers, Normal, Scaled, PowersOfTwo, Zeros, Ties, Huge, Tiny, AnyFinite];
 
-const NOT_FINITE: [f64; 3] = [f64::NAN, f64::INFINITY, f64::NEG_INFINITY];
+pub const NOT_FINITE: [f64; 3] = [f64::NAN, f64::INFINITY, f64::NEG_INFINITY];
 
 /// Numbers of one kind, whatever the shape.
 fn entries(kind: Kind, count: usize, r: &mut Random) -> Vec<f64> {
@@ -116,7 +116,7 @@ fn at_tolerance(n: usize, r: &mut Random) -> Vec<f64> {
     a
 }
 
-fn square(kind: Kind, n: usize, r: &mut Random) -> Vec<f64> {
+pub fn square(kind: Kind, n: usize, r: &mut Random) -> Vec<f64> {
     if n == 0 {
         return Vec::new();
     }
@@ -235,7 +235,7 @@ fn square(kind: Kind, n: usize, r: &mut Random) -> Vec<f64> {
 }
 
 /// A matrix for a function.
-fn matrix_for(function: Function, n: usize, r: &mut Random) -> Vec<f64> {
+pub fn matrix_for(function: Function, n: usize, r: &mut Random) -> Vec<f64> {
     let kind = match function {
         Logm | Sqrtm | Powm | FrechetLogm | FrechetSqrtm if r.once_in(2) => r.pick(&ROOTED),
         Expm | Cosm | Sinm | FrechetExpm | CondExpm if r.once_in(2) => r.pick(&[Normal, Scaled, Symmetric]),
@@ -245,7 +245,7 @@ fn matrix_for(function: Function, n: usize, r: &mut Random) -> Vec<f64> {
     square(kind, n, r)
 }
 
-fn direction(n: usize, r: &mut Random) -> Vec<f64> {
+pub fn direction(n: usize, r: &mut Random) -> Vec<f64> {
     let kind = if r.once_in(2) { Normal } else { r.pick(&FINITE) };
     square(kind, n, r)
 }
@@ -255,7 +255,7 @@ fn free_entries(count: usize, r: &mut Random) -> Vec<f64> {
     entries(kind, count, r)
 }
 
-fn exponent(r: &mut Random) -> f64 {
+pub fn exponent(r: &mut Random) -> f64 {
     match r.below(8) {
         0 => f64::from(r.between(-6, 12)),
         1 => f64::from(r.between(-400, 400)),

@@ -4,6 +4,7 @@
 pub mod answer;
 pub mod call;
 pub mod cases;
+pub mod given;
 pub mod norms;
 pub mod questions;
 pub mod random;

@@ -1,4 +1,5 @@
-//! `vectors NAME SEED COUNT` prints COUNT calls of one function with their answers; `vectors roots` prints square roots.
+//! `vectors NAME SEED COUNT` prints COUNT calls of one function with their answers, `vectors given NAME` those that are written out, and
+//! `vectors roots` square roots.
 
 use std::env::args;
 use std::io::{BufWriter, Result, Write, stdout};
@@ -6,6 +7,7 @@ use std::process::exit;
 use vectors::answer::answer;
 use vectors::call::{FUNCTIONS, Function, Outcome, line};
 use vectors::cases::case;
+use vectors::given::given;
 use vectors::random::Random;
 use vectors::roots::roots;
 
@@ -40,9 +42,19 @@ fn print_calls(function: Function, seed: u64, count: usize) -> Result<()> {
     Ok(())
 }
 
+fn print_given(function: Function) -> Result<()> {
+    let mut out = BufWriter::new(stdout());
+    for call in given(function) {
+        if let Some(text) = line(&call, &answer(&call)) {
+            writeln!(out, "{text}")?;
+        }
+    }
+    out.flush()
+}
+
 fn usage() -> ! {
     let names: Vec<&str> = FUNCTIONS.iter().map(|(_, name)| *name).collect();
-    eprintln!("vectors NAME SEED COUNT\nvectors roots\nNAME: {}", names.join(" "));
+    eprintln!("vectors NAME SEED COUNT\nvectors given NAME\nvectors roots\nNAME: {}", names.join(" "));
     exit(2)
 }
 
@@ -51,6 +63,10 @@ fn main() -> Result<()> {
     let given: Vec<&str> = given.iter().map(String::as_str).collect();
     match given[..] {
         ["roots"] => print_roots(),
+        ["given", name] => match Function::named(name) {
+            Some(function) if function.coded() => print_given(function),
+            _ => usage(),
+        },
         [name, seed, count] => match (Function::named(name), seed.parse(), count.parse()) {
             (Some(function), Ok(seed), Ok(count)) => print_calls(function, seed, count),
             _ => usage(),

@@ -3,6 +3,7 @@
 use vectors::answer::answer;
 use vectors::call::{Call, FUNCTIONS, Function, Outcome, Refusal, line};
 use vectors::cases::case;
+use vectors::given::given;
 use vectors::norms::{halvings, near_power_of_two, source_halvings};
 use vectors::random::Random;
 use vectors::read::read;
@@ -94,6 +95,27 @@ fn a_fractional_power_that_overflows() {
     (call.rows, call.columns, call.outputs[0], call.room) = (2, 2, 4, 8192);
     (call.matrix, call.exponent) = (vec![1.0, 1e308, 0.0, 1.0], 2.5);
     assert!(matches!(answer(&call), Outcome::Refused(Refusal(12, 0, 0))));
+}
+
+/// The proviso of demand 3 is needed: the exponential of the matrix is finite, and frechet_expm's first output is not.
+#[test]
+fn a_direction_spoils_the_first_output() {
+    let spoiled = |call: &Call| match answer(call) {
+        Outcome::Done(done) => done.outputs[0].iter().any(|x| x.is_nan()),
+        _ => false,
+    };
+    let calls = given(Function::FrechetExpm);
+    let finite = |call: &Call| oracle::expm(2, 2, &call.matrix).unwrap().iter().all(|x| x.is_finite());
+    assert_eq!(calls.iter().filter(|c| c.rows == 2 && spoiled(c) && finite(c)).count(), 2);
+}
+
+/// Powers that document 01's bench names: the zero matrix to the power -1 and to the power 0.
+#[test]
+fn powers_of_zero() {
+    let calls = given(Function::Powm);
+    let zero = |p: f64| calls.iter().find(|c| c.matrix == [0.0; 4] && c.exponent == p).unwrap();
+    assert!(matches!(answer(zero(-1.0)), Outcome::Refused(Refusal(13, 0, 0))));
+    assert!(matches!(answer(zero(0.0)), Outcome::Done(done) if done.outputs[0] == [1.0, 0.0, 0.0, 1.0]));
 }
 
 /// A root is the nearest number, by compared squares of whole numbers, as document 01 judges it.

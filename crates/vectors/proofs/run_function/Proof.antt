@@ -7,10 +7,13 @@ use Rattle.vectors.proofs.run_function.Statement.{statement}
 use Rattle.vectors.proofs.run_function.Tie as tie
 
 abbrev Inv-loop : tie.InvT-loop
-Inv-loop function text from number tally₀ line₀ at₀ tally line at = at ≤ length text
+Inv-loop function name text from number tally₀ line₀ at₀ tally line at = at ≤ length text
 
 abbrev μ-loop : tie.MeasureT-loop
-μ-loop function text from number tally₀ line₀ at₀ tally line at = length text - at
+μ-loop function name text from number tally₀ line₀ at₀ tally line at = length text - at
+
+empty-requires : tie.Need-empty-requires Inv-loop μ-loop
+empty-requires c κs = search needs
 
 loop-holds : tie.Need-loop-holds Inv-loop μ-loop
 loop-holds c = search needs
@@ -68,6 +71,7 @@ run-function-spec =
     (tie.spec
     Inv-loop
     μ-loop
+    empty-requires
     loop-holds
     after-requires
     sub-is-of

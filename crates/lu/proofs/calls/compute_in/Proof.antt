@@ -48,7 +48,7 @@ returns c =
     let a = s .args in
     let d = call .factor-copy in
     let few = product64 (a .n) (a .n) (s .pre .0) (s .pre .0) in
-    computing-all binary64 (a .n) (now (a .a)) (now (a .w)) (s .pre .1) (omega (arith, few, s .pre .2)) (s .pre .0) (now (a .rows)) (d .last .1 .1 .0) (d .last .1 .1 .1 .0) (d .result) (d .ensures) few
+    computing-all binary64 (a .n) (now (a .a)) (now (a .w)) (s .pre .1) (omega (arith, few, s .pre .2)) (now (a .rows)) (d .last .1 .1 .0) (d .last .1 .1 .1 .0) (d .result) (d .ensures) few
     (now (a .factors)) (out .copy-out .last .1 .1 .0) (now (a .pivots)) (pivots .copy-pivots .last .0) (told .enum-told .given .1) (s .pre .3) (s .pre .4) (out .copy-out .ensures) (pivots .copy-pivots .ensures)
 
 same-length-5 : tie.Need-same-length-5
@@ -65,7 +65,7 @@ returns-2 c =
     let a = s .args in
     let d = call .factor-copy in
     let few = product64 (a .n) (a .n) (s .pre .0) (s .pre .0) in
-    computing-none binary64 (a .n) (now (a .a)) (now (a .w)) (s .pre .1) (omega (arith, few, s .pre .2)) (s .pre .0) (now (a .rows)) (d .last .1 .1 .0) (d .last .1 .1 .1 .0) (d .result) (d .ensures) few
+    computing-none binary64 (a .n) (now (a .a)) (now (a .w)) (s .pre .1) (omega (arith, few, s .pre .2)) (now (a .rows)) (d .last .1 .1 .0) (d .last .1 .1 .1 .0) (d .result) (d .ensures) few
     (now (a .factors)) (now (a .pivots)) _ (told .outcome .given .1)
 
 pub compute-in-spec : {M : Type 1} → statement M

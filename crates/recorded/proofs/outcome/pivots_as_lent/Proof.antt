@@ -2,8 +2,8 @@
 use Prim.Native.Nat.{_-_, _≤_}
 use lib.ListN.{length}
 use borrow.Author.Needs.{needs}
-use Rattle.vectors.proofs.outcome.pivots_as_lent.Statement.{statement}
-use Rattle.vectors.proofs.outcome.pivots_as_lent.Tie as tie
+use Rattle.recorded.proofs.outcome.pivots_as_lent.Statement.{statement}
+use Rattle.recorded.proofs.outcome.pivots_as_lent.Tie as tie
 
 abbrev Inv-loop : tie.InvT-loop
 Inv-loop x i₀ i = i ≤ length x

@@ -2,18 +2,21 @@
 ghost use mathlib.Core.Path.{_≡_};
 ghost use Prim.Native.Nat.{_≤_};
 ghost use lib.ListN.{length};
-use recorded::counts;
-use recorded::numbers;
-use recorded::word;
+use crate::counts;
+use crate::numbers;
+use crate::word;
+use arithmetic::float::float_of;
 
-// The counts of a call, and where its lists start.
+// The counts of a call and its exponent, and where its lists start.
 pub struct Shape {
     pub rows: usize,
     pub columns: usize,
     pub height: usize,
     pub width: usize,
     pub output: usize,
+    pub second: usize,
     pub room: usize,
+    pub exponent: f64,
     pub next: usize,
 }
 
@@ -30,7 +33,7 @@ fn count_room() -> [usize; 8]
     [0usize; 8]
 }
 
-// The counts at `at`. The second output's length and the exponent are passed over.
+// The counts at `at`, of which the last is the exponent by its bits.
 pub fn read_shape(s: &[u8], at: usize) -> Shape
     requires { ⌜ at ≤ length (now s) ⌝ }
     ensures { λ r. ⌜ r .next ≤ length (now (s .entry)) ⌝ }
@@ -43,7 +46,9 @@ pub fn read_shape(s: &[u8], at: usize) -> Shape
         height: x[2],
         width: x[3],
         output: x[4],
+        second: x[5],
         room: x[6],
+        exponent: float_of(x[7] as u64),
         next,
     }
 }

@@ -1,26 +1,26 @@
 // Outcomes as numbers, and the comparison of a call's outcome and outputs with what was recorded.
 ghost use Prim.Native.Nat.{_≤_};
 ghost use lib.ListN.{length};
+use crate::after;
+use crate::begins;
+use crate::same_counts;
+use crate::same_numbers;
+use crate::word;
 use arithmetic::answer::Outcome;
 use arithmetic::answer::Refusal;
 use arithmetic::float::bits_of;
-use recorded::after;
-use recorded::begins;
-use recorded::same_counts;
-use recorded::same_numbers;
-use recorded::word;
 
 // An outcome: number 0 and the halvings, or the refusal's number and its two details.
-pub struct Report {
-    pub number: u64,
-    pub first: u64,
-    pub second: u64,
+struct Report {
+    number: u64,
+    first: u64,
+    second: u64,
 }
 
 // The recorded outcome, and where the recorded outputs start.
-pub struct Recorded {
-    pub report: Report,
-    pub next: usize,
+struct Recorded {
+    report: Report,
+    next: usize,
 }
 
 // What every lent number holds before a call.
@@ -57,7 +57,7 @@ fn refusal_report(why: Refusal) -> Report {
     }
 }
 
-pub fn report_of(outcome: Outcome) -> Report {
+fn report_of(outcome: Outcome) -> Report {
     match outcome {
         Outcome::Done { halvings } => Report {
             number: 0,
@@ -69,7 +69,7 @@ pub fn report_of(outcome: Outcome) -> Report {
 }
 
 // The recorded outcome with which s starts: `ok HALVINGS`, or `no NUMBER DETAIL DETAIL`.
-pub fn recorded_outcome(s: &[u8]) -> Recorded
+fn recorded_outcome(s: &[u8]) -> Recorded
     ensures { λ r. ⌜ r .next ≤ length (now (s .entry)) ⌝ }
 {
     let at = after(s, 0, b' ');
@@ -96,12 +96,12 @@ pub fn recorded_outcome(s: &[u8]) -> Recorded
     }
 }
 
-pub fn same_report(a: Report, b: Report) -> bool {
+fn same_report(a: Report, b: Report) -> bool {
     a.number == b.number && a.first == b.first && a.second == b.second
 }
 
 // Whether the first numbers of x, `cleared` of them, are +0 and the others are as they were lent.
-pub fn cleared_to(x: &[f64], cleared: usize) -> bool {
+fn cleared_to(x: &[f64], cleared: usize) -> bool {
     let mut i = 0;
     while i < x.len() {
         if !is_left(x[i], i < cleared) {
@@ -122,7 +122,7 @@ fn is_left(x: f64, cleared: bool) -> bool {
 }
 
 // Whether the pivots are as they were lent.
-pub fn pivots_as_lent(x: &[usize]) -> bool {
+fn pivots_as_lent(x: &[usize]) -> bool {
     let mut i = 0;
     while i < x.len() {
         if x[i] != LENT_PIVOT {
@@ -133,30 +133,66 @@ pub fn pivots_as_lent(x: &[usize]) -> bool {
     true
 }
 
-// Whether the recorded outputs at `at`, the last of s, are x, nothing and the pivots.
-pub fn same_outputs(s: &[u8], at: usize, x: &[f64], pivots: &[usize]) -> bool
+// Whether the recorded outputs at `at`, the last of s, are x, y and the pivots.
+fn same_outputs(s: &[u8], at: usize, x: &[f64], y: &[f64], pivots: &[usize]) -> bool
     requires { ⌜ at ≤ length (now s) ⌝ }
 {
     let first = same_numbers(s, at, x);
     if !first.same {
         return false;
     }
-    let second = word(s, first.next);
+    let second = same_numbers(s, first.next, y);
+    if !second.same {
+        return false;
+    }
     let third = same_counts(s, second.next, pivots);
-    second.value == 0 && third.same && third.next == s.len()
+    third.same && third.next == s.len()
 }
 
-// Whether an outcome is the recorded one, and x what was recorded or, after a refusal, as it was lent.
-pub fn same_answer(s: &[u8], outcome: Outcome, x: &[f64]) -> bool {
+// How many numbers of the workspace a call clears that ends with this number: all 8,192 where it is done or refused by 12, 13 or 14.
+fn cleared_after(number: u64) -> usize {
+    if number == 0 || 12 <= number && number <= 14 {
+        8192
+    } else {
+        0
+    }
+}
+
+// Whether the recorded outcome s is this one, the workspace w is left as it says, and x, y and the pivots are what was recorded or, after a
+// refusal, as they were lent. What a function does not have is empty.
+pub fn same_call(
+    s: &[u8],
+    outcome: Outcome,
+    x: &[f64],
+    y: &[f64],
+    pivots: &[usize],
+    w: &[f64],
+) -> bool {
     let report = report_of(outcome);
     let recorded = recorded_outcome(s);
     let wanted = recorded.report;
-    if !same_report(report, wanted) {
+    if !same_report(report, wanted) || !cleared_to(w, cleared_after(report.number)) {
         return false;
     }
     if report.number == 0 {
-        same_outputs(s, recorded.next, x, &[])
+        return same_outputs(s, recorded.next, x, y, pivots);
+    }
+    let lent = cleared_to(x, 0) && cleared_to(y, 0) && pivots_as_lent(pivots);
+    lent && recorded.next == s.len()
+}
+
+// Whether the recorded outcome s is this one, the workspace w is left as it says, and the returned numbers x are what was recorded or, after a
+// refusal, +0.
+pub fn same_values(s: &[u8], outcome: Outcome, x: &[f64], w: &[f64]) -> bool {
+    let report = report_of(outcome);
+    let recorded = recorded_outcome(s);
+    let wanted = recorded.report;
+    if !same_report(report, wanted) || !cleared_to(w, cleared_after(report.number)) {
+        return false;
+    }
+    if report.number == 0 {
+        same_outputs(s, recorded.next, x, &[], &[])
     } else {
-        cleared_to(x, 0) && recorded.next == s.len()
+        cleared_to(x, x.len()) && recorded.next == s.len()
     }
 }

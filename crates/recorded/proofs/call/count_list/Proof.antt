@@ -2,8 +2,8 @@
 use mathlib.Core.Path.{sym}
 use lib.Seq.{length-take-le}
 use borrow.Author.Needs.{needs}
-use Rattle.vectors.proofs.call.count_list.Statement.{statement}
-use Rattle.vectors.proofs.call.count_list.Tie as tie
+use Rattle.recorded.proofs.call.count_list.Statement.{statement}
+use Rattle.recorded.proofs.call.count_list.Tie as tie
 
 word-requires : tie.Need-word-requires
 word-requires c κs = search needs

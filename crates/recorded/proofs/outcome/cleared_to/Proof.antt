@@ -2,8 +2,8 @@
 use Prim.Native.Nat.{_-_, _≤_}
 use lib.ListN.{length}
 use borrow.Author.Needs.{needs}
-use Rattle.vectors.proofs.outcome.cleared_to.Statement.{statement}
-use Rattle.vectors.proofs.outcome.cleared_to.Tie as tie
+use Rattle.recorded.proofs.outcome.cleared_to.Statement.{statement}
+use Rattle.recorded.proofs.outcome.cleared_to.Tie as tie
 
 abbrev Inv-loop : tie.InvT-loop
 Inv-loop x cleared i₀ i = i ≤ length x

@@ -1,0 +1,146 @@
+//! Sheets to try, made from a seed and a number: good ones, damaged copies, and lent outputs that are too short.
+
+use crate::entry::ROOM;
+use crate::sheet::{Sheet, Task};
+use vectors::call::{FUNCTIONS, Function};
+use vectors::cases::{Kind, NOT_FINITE, direction, exponent, matrix_for, square};
+use vectors::random::Random;
+
+/// The bytes to hand over, and the length of the lent output.
+pub struct Trial {
+    pub bytes: Vec<u8>,
+    pub lent: usize,
+}
+
+/// Exponents that document 01 or the comparison names, beside those of vectors::cases.
+const EXPONENTS: [f64; 13] =
+    [0.0, 1.0, -1.0, 13.0, -7.0, 2.5, 0.5, 1e-15, 1e19, -1e19, f64::NAN, f64::INFINITY, f64::NEG_INFINITY];
+
+/// An infinity or a NaN, with any sign and payload.
+fn not_finite(r: &mut Random) -> f64 {
+    if r.once_in(2) { r.pick(&NOT_FINITE) } else { f64::from_bits(r.bits() | 0x7ff0 << 48) }
+}
+
+/// Replaces an entry, once in n.
+fn spoil(numbers: &mut [f64], n: usize, r: &mut Random) {
+    if r.once_in(n) {
+        let at = r.below(numbers.len());
+        numbers[at] = not_finite(r);
+    }
+}
+
+/// Entries 1 / (i + j + 1), times a power of two: badly conditioned from order 4 on.
+fn reciprocals(n: usize, r: &mut Random) -> Vec<f64> {
+    let scale = r.power_of_two(-8, 8);
+    (0..n * n).map(|k| scale / (k / n + k % n + 1) as f64).collect()
+}
+
+/// Rows of very different sizes.
+fn uneven(n: usize, r: &mut Random) -> Vec<f64> {
+    let mut a = square(Kind::Normal, n, r);
+    for row in a.chunks_mut(n) {
+        let scale = r.power_of_two(-40, 40);
+        row.iter_mut().for_each(|x| *x *= scale);
+    }
+    a
+}
+
+/// Eigenvalues that are real, and some or all below 0: the diagonal of a triangle, or a definite matrix negated.
+fn negative(n: usize, r: &mut Random) -> Vec<f64> {
+    if r.once_in(2) {
+        return square(Kind::Definite, n, r).iter().map(|x| -x).collect();
+    }
+    let mut a = square(Kind::PositiveUpper, n, r);
+    for i in 0..n {
+        a[i * n + i] *= r.pick(&[-1.0, -1.0, 1.0]);
+    }
+    a
+}
+
+/// The identity with one entry near the largest number above the diagonal: its logarithm is that entry, which a fractional power may take past the largest.
+fn steep(n: usize, r: &mut Random) -> Vec<f64> {
+    let mut a: Vec<f64> = (0..n * n).map(|k| if k / n == k % n { 1.0 } else { 0.0 }).collect();
+    if n > 1 {
+        a[n - 1] = r.sign() * (1.0 + r.unit()) * 2f64.powi(1022);
+    }
+    a
+}
+
+fn matrix(n: usize, r: &mut Random) -> Vec<f64> {
+    let mut a = match r.below(24) {
+        0..=1 => reciprocals(n, r),
+        2..=3 => uneven(n, r),
+        4..=5 => negative(n, r),
+        6..=7 => square(r.pick(&[Kind::Zeros, Kind::SmallIntegers, Kind::Singular]), n, r),
+        8..=9 => square(r.pick(&[Kind::Huge, Kind::Tiny, Kind::Overflowing]), n, r),
+        10 => steep(n, r),
+        // The kinds that suit a function, and now and then any kind.
+        _ => matrix_for(FUNCTIONS[r.below(10)].0, n, r),
+    };
+    spoil(&mut a, 24, r);
+    a
+}
+
+fn task(directions: usize, exponents: usize, r: &mut Random) -> Task {
+    loop {
+        let mut task = Task { code: r.below(10), index: 0 };
+        let indices = match task.function() {
+            Function::Powm => exponents,
+            f if f.directed() => directions,
+            _ => 1,
+        };
+        if indices > 0 {
+            task.index = r.below(indices);
+            return task;
+        }
+    }
+}
+
+/// A sheet that is accepted.
+pub fn sheet(r: &mut Random) -> Sheet {
+    let n = 1 + r.below(8);
+    let matrix = matrix(n, r);
+    let mut directions = Vec::new();
+    for _ in 0..r.below(9) {
+        let mut e = direction(n, r);
+        spoil(&mut e, 12, r);
+        directions.push(e);
+    }
+    let mut exponents = Vec::new();
+    for _ in 0..r.below(9) {
+        exponents.push(if r.once_in(2) { r.pick(&EXPONENTS) } else { exponent(r) });
+    }
+    let count = 1 + r.below(16);
+    let tasks = (0..count).map(|_| task(directions.len(), exponents.len(), r)).collect();
+    Sheet { order: n, matrix, directions, exponents, tasks }
+}
+
+/// A place in the sheet: half of the time that of a count, a code or an index.
+fn place(sheet: &Sheet, length: usize, r: &mut Random) -> usize {
+    if r.once_in(2) { r.pick(&sheet.marks()) } else { r.below(length) }
+}
+
+/// The sheet's bytes, cut, with a byte added, taken out or changed, or with many bytes added.
+fn damaged(sheet: &Sheet, r: &mut Random) -> Vec<u8> {
+    let mut bytes = sheet.bytes();
+    let at = place(sheet, bytes.len(), r);
+    match r.below(7) {
+        0 => bytes.truncate(at),
+        1 => bytes.truncate(bytes.len() - 1),
+        2 => bytes.push(r.below(256) as u8),
+        3 => bytes.insert(at, r.below(256) as u8),
+        4 => drop(bytes.remove(at)),
+        5 => bytes.extend((0..r.below(8192)).map(|_| r.below(256) as u8)),
+        _ => bytes[at] = if r.once_in(2) { r.below(20) as u8 } else { r.below(256) as u8 },
+    }
+    bytes
+}
+
+/// A trial depends on the seed and its number only, so that one can be run again alone.
+pub fn trial(seed: u64, number: u64) -> Trial {
+    let mut r = Random::new(Random::new(seed).bits() ^ number.wrapping_mul(0x9e37_79b9_7f4a_7c15));
+    let sheet = sheet(&mut r);
+    let bytes = if r.once_in(5) { damaged(&sheet, &mut r) } else { sheet.bytes() };
+    let lent = if r.once_in(10) { r.pick(&[0, 1, 17_500, 34_999, 35_001, 35_064, 70_000]) } else { ROOM };
+    Trial { bytes, lent }
+}

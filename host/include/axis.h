@@ -1,0 +1,31 @@
+/* The exported entry of the static library libsheet.a, which `rt staticlib sheet` makes. */
+#ifndef AXIS_H
+#define AXIS_H
+
+#include <stddef.h>
+#include <stdint.h>
+
+/* The least length of output, and the length of the longest sheet that is accepted. */
+#define AXIS_OUTPUT_LENGTH 35000
+#define AXIS_SHEET_LENGTH 4708
+
+#ifdef __cplusplus
+extern "C" {
+#endif
+
+/*
+ * Runs a sheet and writes one line for each task, as document 01 says; a sheet that is refused gives one line. Reports the bytes written. Later bytes of
+ * the output stay as they are, and no zero byte is added.
+ *
+ * Where output_length is below AXIS_OUTPUT_LENGTH, 0 is reported, nothing is read and nothing is written; otherwise at least one line is written.
+ *
+ * sheet points to sheet_length bytes and output to output_length bytes. Neither is null, also where its length is 0, and the two do not overlap. Nothing is
+ * kept after the call.
+ */
+size_t axis_sheet(const uint8_t *sheet, size_t sheet_length, uint8_t *output, size_t output_length);
+
+#ifdef __cplusplus
+}
+#endif
+
+#endif
