@@ -2,7 +2,7 @@
 use Prim.Native.Nat.{ℕ, _*_, _≤_, _<_}
 use native.Mathlib.Omega.{arith}
 use mathlib.Core.Path.{_≡_, refl, ap, sym, _∙_}
-use mathlib.Core.Bool.{true, false}
+use mathlib.Core.Bool.{Bool, true, false}
 use mathlib.Core.List.{List}
 use lib.Dec.{ltb, eqb}
 use lib.ListN.{length}
@@ -13,7 +13,7 @@ use Rattle.arithmetic.specs.Workspace.{slot, store, cleared, Only}
 use Rattle.arithmetic.specs.Result.{Result, refused, done, outcome, exit}
 use Rattle.arithmetic.specs.Questions.{Call, Profile, asked, answer}
 use Rattle.arithmetic.specs.Answers.{numbered, reported, found}
-use Rattle.arithmetic.specs.Outputs.{Both, TwoOutputsIn, ReplacedBoth, DeliveredBoth}
+use Rattle.arithmetic.specs.Outputs.{Both, TwoOutputsIn, TwoOutputsWith, ReplacedBoth, DeliveredBoth}
 use Rattle.arithmetic.specs.declared.answer.Outcome.{Outcome}
 use Rattle.arithmetic.specs.declared.answer.Outcome.the-variants.{Done, Refused}
 use Rattle.arithmetic.specs.declared.answer.Question.{Question}
@@ -24,7 +24,7 @@ use Rattle.arithmetic.proofs.Slots.{slot-store, slot-other, slots-apart
 use Rattle.arithmetic.proofs.States.{among, member-among}
 use Rattle.arithmetic.proofs.QuestionLaws.{as-refused}
 use Rattle.arithmetic.proofs.AnswerLaws.{answer-passed, outcome-no, exit-no, workspace-no}
-use Rattle.arithmetic.proofs.OutputLaws.{Late, late-workspace}
+use Rattle.arithmetic.proofs.OutputLaws.{Late, late-workspace, exit-done, exit-refused, exit-as}
 
 -- ---- a call on the way, by its outcome
 
@@ -44,62 +44,41 @@ call-refused (done t u) o y p e =
 
 -- ---- the two ends of a delivery
 
-module _ (given o : Outcome) (v d first second w w′ : List Float) where
-  pub both-delivered : (first′ second′ : List Float) (s : ℕ) → given ≡ Done s → reported o ≡ done s tt → first′ ≡ v → second′ ≡ d → w′ ≡ cleared w → DeliveredBoth given o v d first first′ second second′ w w′
-  unfolding exit
+module _ (clears : Bool) (given o : Outcome) (v d first second w w′ : List Float) where
+  pub both-delivered : (first′ second′ : List Float) (s : ℕ) → given ≡ Done s → reported o ≡ done s tt → first′ ≡ v → second′ ≡ d → (clears ≡ true → w′ ≡ cleared w)
+      → DeliveredBoth clears given o v d first first′ second second′ w w′
   both-delivered first′ second′ s e k x y z = record {
     outcome = k ∙ sym (ap reported e);
-    value = x ∙ sym (ap (λ (q : Outcome). exit (λ _. v) (reported q) first) e);
-    derivative = y ∙ sym (ap (λ (q : Outcome). exit (λ _. d) (reported q) second) e);
+    value = x ∙ sym (exit-done v first given s e);
+    derivative = y ∙ sym (exit-done d second given s e);
     workspace = z;
   }
 
-  pub both-kept : (x : Refusal) → given ≡ Refused x → reported o ≡ numbered x → w′ ≡ cleared w → DeliveredBoth given o v d first first second second w w′
-  unfolding exit
-  both-kept x e k z =
-      let (i, j, l, n) = as-refused x in
-      let r : reported given ≡ refused i j l = ap reported e ∙ n in
-      record {
-        outcome = k ∙ sym (ap reported e);
-        value = sym (ap (λ (q : Result (Unit {0})). exit (λ _. v) q first) r);
-        derivative = sym (ap (λ (q : Result (Unit {0})). exit (λ _. d) q second) r);
-        workspace = z;
-      }
-
--- slots 0 and 1 are delivered where the definition, x, is done
-delivered : (x : Result Both) (given o : Outcome) (v d first first′ second second′ w w2 w3 : List Float) → Late x → reported given ≡ outcome x → v ≡ exit (λ (b : Both). b .value) x v → d ≡ exit (λ (b : Both). b .derivative) x d
-    → DeliveredBoth given o v d first first′ second second′ w2 w3 → cleared w2 ≡ cleared w → TwoOutputsIn x o first first′ second second′ w w3
-unfolding outcome exit
-delivered (refused k i j) given o v d first first′ second second′ w w2 w3 l p r r′ D e = record {
-  outcome = D .outcome ∙ p;
-  value = D .value ∙ ap (λ (z : Result (Unit {0})). exit (λ _. v) z first) p;
-  derivative = D .derivative ∙ ap (λ (z : Result (Unit {0})). exit (λ _. d) z second) p;
-  workspace = D .workspace ∙ e ∙ sym (late-workspace {A = Both} (refused k i j) w l);
-}
-delivered (done s x) given o v d first first′ second second′ w w2 w3 l p r r′ D e = record {
-  outcome = D .outcome ∙ p;
-  value = D .value ∙ ap (λ (z : Result (Unit {0})). exit (λ _. v) z first) p ∙ r;
-  derivative = D .derivative ∙ ap (λ (z : Result (Unit {0})). exit (λ _. d) z second) p ∙ r′;
-  workspace = D .workspace ∙ e ∙ sym (late-workspace {A = Both} (done s x) w l);
-}
+  pub both-kept : (x : Refusal) → given ≡ Refused x → reported o ≡ numbered x → (clears ≡ true → w′ ≡ cleared w) → DeliveredBoth clears given o v d first first second second w w′
+  both-kept x e k z = record {
+    outcome = k ∙ sym (ap reported e);
+    value = sym (exit-refused v first given x e);
+    derivative = sym (exit-refused d second given x e);
+    workspace = z;
+  }
 
 -- ---- a call with two outputs and a workspace
 
-module _ (p : Profile) (c : Call) (q : Question) (h : found q ≡ asked p c) (o : Outcome) (first second w : List Float) where
+module _ (p : Profile) (c : Call) (q : Question) (h : found q ≡ asked p c) (clears : Bool) (o : Outcome) (first second w : List Float) where
   -- a question refuses: outputs and workspace are as they were lent
-  pub two-refused : (r : Result Both) (x : Refusal) → q ≡ No x → reported o ≡ numbered x → TwoOutputsIn (answer p c r) o first first second second w w
+  pub two-refused : (r : Result Both) (x : Refusal) → q ≡ No x → reported o ≡ numbered x → TwoOutputsWith clears (answer p c r) o first first second second w w
   two-refused r x e k = record {
     outcome = k ∙ sym (outcome-no p c r q h x e);
     value = sym (exit-no p c r q h x e (λ (b : Both). b .value) first);
     derivative = sym (exit-no p c r q h x e (λ (b : Both). b .derivative) second);
-    workspace = sym (workspace-no p c r q h x e w);
+    workspace = λ _. sym (workspace-no p c r q h x e w);
   }
 
   -- None does: the matrix a is copied to slot 0 and the direction d to slot t, slots 0 and 1 are replaced by what g gives for them, and delivered.
   pub two-done : (ss : List ℕ) (n t : ℕ) (g : List Float → List Float → Result Both) (a d first′ second′ w1 w2 w3 w4 : List Float) (given : Outcome) → q ≡ Passed → Late (g a d)
       → n ≤ 16 → 8192 ≤ length w → length a ≡ n * n → length d ≡ n * n → length first ≡ n * n → length second ≡ n * n → eqb 0 t ≡ false → t < 32 → among (λ s. ltb s 32) ss ≡ true
       → w1 ≡ store w 0 a → w2 ≡ store w1 t d → ReplacedBoth ss n (g (slot n w2 0) (slot n w2 t)) given w2 w3
-      → DeliveredBoth given o (part w3 0 (length first)) (part w3 256 (length second)) first first′ second second′ w3 w4 → TwoOutputsIn (answer p c (g a d)) o first first′ second second′ w w4
+      → DeliveredBoth clears given o (part w3 0 (length first)) (part w3 256 (length second)) first first′ second second′ w3 w4 → TwoOutputsWith clears (answer p c (g a d)) o first first′ second second′ w w4
   unfolding slot
   two-done ss n t g a d first′ second′ w1 w2 w3 w4 given e l small room size size′ long long′ other far m e1 e2 R D =
       let few = square-le n small in
@@ -112,6 +91,15 @@ module _ (p : Profile) (c : Call) (q : Question) (h : found q ≡ asked p c) (o 
       let within2 : Only (λ s. ltb s 32) w1 w2 = rw e2 (only-store (λ s. ltb s 32) w1 t d (lt-ltb t 32 far) (omega arith)) in
       let all = only-trans within1 (only-trans within2 (only-more (member-among (λ s. ltb s 32) ss m) (R .only))) in
       let R′ : ReplacedBoth ss n (g a d) given w2 w3 = rw (a2, d2) at R in
-      let D′ : DeliveredBoth given o (slot n w3 0) (slot n w3 1) first first′ second second′ w3 w4 = rw (long, long′) at D in
-      rw (answer-passed p c (g a d) q h e)
-      (delivered (g a d) given o (slot n w3 0) (slot n w3 1) first first′ second second′ w w3 w4 l (R′ .outcome) (R′ .value) (R′ .derivative) D′ (cleared-only w w3 room all))
+      let D′ : DeliveredBoth clears given o (slot n w3 0) (slot n w3 1) first first′ second second′ w3 w4 = rw (long, long′) at D in
+      rw (answer-passed p c (g a d) q h e) (record {
+        outcome = D′ .outcome ∙ R′ .outcome;
+        value = D′ .value ∙ exit-as (slot n w3 0) first given (g a d) (λ (b : Both). b .value) (R′ .outcome) (R′ .value);
+        derivative = D′ .derivative ∙ exit-as (slot n w3 1) second given (g a d) (λ (b : Both). b .derivative) (R′ .outcome) (R′ .derivative);
+        workspace = λ t. D′ .workspace t ∙ cleared-only w w3 room all ∙ sym (late-workspace (g a d) w l);
+      })
+
+-- ---- a call that clears
+
+pub clearing-two : {x : Result Both} {o : Outcome} {first first′ second second′ w w′ : List Float} → TwoOutputsWith true x o first first′ second second′ w w′ → TwoOutputsIn x o first first′ second second′ w w′
+clearing-two R = record { outcome = R .outcome; value = R .value; derivative = R .derivative; workspace = R .workspace refl }

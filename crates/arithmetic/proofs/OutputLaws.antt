@@ -13,7 +13,7 @@ use Rattle.arithmetic.specs.Workspace.{slot, store, cleared, Only}
 use Rattle.arithmetic.specs.Result.{Result, refused, done, _>>=_, outcome, exit, workspace}
 use Rattle.arithmetic.specs.Questions.{Call, Profile, asked, answer}
 use Rattle.arithmetic.specs.Answers.{numbered, reported, found}
-use Rattle.arithmetic.specs.Outputs.{OneOutput, OneOutputIn, Replaced, Delivered}
+use Rattle.arithmetic.specs.Outputs.{OneOutput, OneOutputIn, OneOutputWith, Replaced, Delivered}
 use Rattle.arithmetic.specs.declared.answer.Outcome.{Outcome}
 use Rattle.arithmetic.specs.declared.answer.Outcome.the-variants.{Done, Refused}
 use Rattle.arithmetic.specs.declared.answer.Question.{Question}
@@ -42,6 +42,25 @@ unfolding _>>=_
 late-bind (refused k x y) g h l = h
 late-bind (done s a) g h l = l a
 
+-- ---- an output by an outcome
+
+module _ (v lent : List Float) (given : Outcome) where
+  pub exit-done : (s : ℕ) → given ≡ Done s → exit (λ _. v) (reported given) lent ≡ v
+  unfolding exit
+  exit-done s e = ap (λ (z : Outcome). exit (λ _. v) (reported z) lent) e
+
+  pub exit-refused : (x : Refusal) → given ≡ Refused x → exit (λ _. v) (reported given) lent ≡ lent
+  unfolding exit
+  exit-refused x e =
+      let (i, j, l, n) = as-refused x in
+      ap (λ (z : Outcome). exit (λ _. v) (reported z) lent) e ∙ ap (λ (z : Result (Unit {0})). exit (λ _. v) z lent) n
+
+  -- v is what the definition, x, gives where it is done
+  pub exit-as : {A : Type 0} (x : Result A) (read : A → List Float) → reported given ≡ outcome x → v ≡ exit read x v → exit (λ _. v) (reported given) lent ≡ exit read x lent
+  unfolding outcome exit
+  exit-as (refused k i j) read p r = ap (λ (z : Result (Unit {0})). exit (λ _. v) z lent) p
+  exit-as (done s a) read p r = ap (λ (z : Result (Unit {0})). exit (λ _. v) z lent) p ∙ r
+
 -- ---- one output, no workspace
 
 module _ (p : Profile) (c : Call) (q : Question) (h : found q ≡ asked p c) (o : Outcome) (before : List Float) where
@@ -64,44 +83,27 @@ module _ (p : Profile) (c : Call) (q : Question) (h : found q ≡ asked p c) (o 
 -- ---- one output and a workspace
 
 -- the two ends of a delivery
-pub delivered-done : (given o : Outcome) (v before after w w′ : List Float) (s : ℕ) → given ≡ Done s → reported o ≡ done s tt → after ≡ v → w′ ≡ cleared w → Delivered given o v before after w w′
-unfolding exit
-delivered-done given o v before after w w′ s e k x y = record { outcome = k ∙ sym (ap reported e); output = x ∙ sym (ap (λ (z : Outcome). exit (λ _. v) (reported z) before) e); workspace = y }
+pub delivered-done : (clears : Bool) (given o : Outcome) (v before after w w′ : List Float) (s : ℕ) → given ≡ Done s → reported o ≡ done s tt → after ≡ v → (clears ≡ true → w′ ≡ cleared w)
+    → Delivered clears given o v before after w w′
+delivered-done clears given o v before after w w′ s e k x y = record { outcome = k ∙ sym (ap reported e); output = x ∙ sym (exit-done v before given s e); workspace = y }
 
-pub delivered-none : (given o : Outcome) (v before w w′ : List Float) (x : Refusal) → given ≡ Refused x → reported o ≡ numbered x → w′ ≡ cleared w → Delivered given o v before before w w′
-unfolding exit
-delivered-none given o v before w w′ x e k y =
-    let (i, j, l, n) = as-refused x in
-    record { outcome = k ∙ sym (ap reported e); output = sym (ap (λ (z : Outcome). exit (λ _. v) (reported z) before) e ∙ ap (λ (z : Result (Unit {0})). exit (λ _. v) z before) n); workspace = y }
+pub delivered-none : (clears : Bool) (given o : Outcome) (v before w w′ : List Float) (x : Refusal) → given ≡ Refused x → reported o ≡ numbered x → (clears ≡ true → w′ ≡ cleared w)
+    → Delivered clears given o v before before w w′
+delivered-none clears given o v before w w′ x e k y = record { outcome = k ∙ sym (ap reported e); output = sym (exit-refused v before given x e); workspace = y }
 
--- slot 0 is delivered where the definition, x, is done
-delivered : (x : Result (List Float)) (given o : Outcome) (v before after w w2 w3 : List Float) → Late x → reported given ≡ outcome x → v ≡ exit (λ v. v) x v
-    → Delivered given o v before after w2 w3 → cleared w2 ≡ cleared w → OneOutputIn x o before after w w3
-unfolding outcome exit
-delivered (refused k i j) given o v before after w w2 w3 l p r D e = record {
-  outcome = D .outcome ∙ p;
-  output = D .output ∙ ap (λ (z : Result (Unit {0})). exit (λ _. v) z before) p;
-  workspace = D .workspace ∙ e ∙ sym (late-workspace {A = List Float} (refused k i j) w l);
-}
-delivered (done s x) given o v before after w w2 w3 l p r D e = record {
-  outcome = D .outcome ∙ p;
-  output = D .output ∙ ap (λ (z : Result (Unit {0})). exit (λ _. v) z before) p ∙ r;
-  workspace = D .workspace ∙ e ∙ sym (late-workspace {A = List Float} (done s x) w l);
-}
-
-module _ (p : Profile) (c : Call) (q : Question) (h : found q ≡ asked p c) (o : Outcome) (before w : List Float) where
+module _ (p : Profile) (c : Call) (q : Question) (h : found q ≡ asked p c) (clears : Bool) (o : Outcome) (before w : List Float) where
   -- a question refuses: output and workspace are as they were lent
-  pub one-refused : (r : Result (List Float)) (x : Refusal) → q ≡ No x → reported o ≡ numbered x → OneOutputIn (answer p c r) o before before w w
+  pub one-refused : (r : Result (List Float)) (x : Refusal) → q ≡ No x → reported o ≡ numbered x → OneOutputWith clears (answer p c r) o before before w w
   one-refused r x e k = record {
     outcome = k ∙ sym (outcome-no p c r q h x e);
     output = sym (exit-no p c r q h x e (λ v. v) before);
-    workspace = sym (workspace-no p c r q h x e w);
+    workspace = λ _. sym (workspace-no p c r q h x e w);
   }
 
   -- none does: the matrix a is copied to slot 0, replaced by what g gives for it, and delivered
   pub one-done : (ss : List ℕ) (n : ℕ) (g : List Float → Result (List Float)) (a after w1 w2 w3 : List Float) (given : Outcome) → q ≡ Passed → Late (g a)
       → n ≤ 16 → 8192 ≤ length w → length a ≡ n * n → length before ≡ n * n → among (λ s. ltb s 32) ss ≡ true
-      → w1 ≡ store w 0 a → Replaced ss n (g (slot n w1 0)) given w1 w2 → Delivered given o (part w2 0 (length before)) before after w2 w3 → OneOutputIn (answer p c (g a)) o before after w w3
+      → w1 ≡ store w 0 a → Replaced ss n (g (slot n w1 0)) given w1 w2 → Delivered clears given o (part w2 0 (length before)) before after w2 w3 → OneOutputWith clears (answer p c (g a)) o before after w w3
   unfolding slot
   one-done ss n g a after w1 w2 w3 given e l small room size long m e1 R D =
       let few = square-le n small in
@@ -109,5 +111,14 @@ module _ (p : Profile) (c : Call) (q : Question) (h : found q ≡ asked p c) (o 
       let within : Only (λ s. ltb s 32) w w1 = rw e1 (only-store (λ s. ltb s 32) w 0 a refl (omega arith)) in
       let all = only-trans within (only-more (member-among (λ s. ltb s 32) ss m) (R .only)) in
       let R′ : Replaced ss n (g a) given w1 w2 = rw a1 at R in
-      let D′ : Delivered given o (slot n w2 0) before after w2 w3 = rw long at D in
-      rw (answer-passed p c (g a) q h e) (delivered (g a) given o (slot n w2 0) before after w w2 w3 l (R′ .outcome) (R′ .result) D′ (cleared-only w w2 room all))
+      let D′ : Delivered clears given o (slot n w2 0) before after w2 w3 = rw long at D in
+      rw (answer-passed p c (g a) q h e) (record {
+        outcome = D′ .outcome ∙ R′ .outcome;
+        output = D′ .output ∙ exit-as (slot n w2 0) before given (g a) (λ v. v) (R′ .outcome) (R′ .result);
+        workspace = λ t. D′ .workspace t ∙ cleared-only w w2 room all ∙ sym (late-workspace (g a) w l);
+      })
+
+-- ---- a call that clears
+
+pub clearing-one : {x : Result (List Float)} {o : Outcome} {before after w w′ : List Float} → OneOutputWith true x o before after w w′ → OneOutputIn x o before after w w′
+clearing-one R = record { outcome = R .outcome; output = R .output; workspace = R .workspace refl }

@@ -2,7 +2,7 @@
 use Prim.Native.Nat.{ℕ, _+_, _*_, _<_, _≤_}
 use native.Mathlib.Nat.{add-mul, zero-add}
 use mathlib.Core.Path.{_≡_, refl, sym, ap, _∙_}
-use mathlib.Core.Bool.{true}
+use mathlib.Core.Bool.{Bool, true}
 use mathlib.Core.List.{List}
 use native.Mathlib.Omega.{arith}
 use lib.Dec.{ltb}
@@ -14,7 +14,7 @@ use Rattle.arithmetic.specs.Workspace.{slot, store, cleared, Only, Room}
 use Rattle.arithmetic.specs.Result.{Result, refused, done, outcome, exit, workspace}
 use Rattle.arithmetic.specs.Questions.{Call, Profile, asked, answer}
 use Rattle.arithmetic.specs.Answers.{reported, found}
-use Rattle.arithmetic.specs.Outputs.{Both, TwoOutputsIn, Replaced}
+use Rattle.arithmetic.specs.Outputs.{Both, TwoOutputsWith, Replaced}
 use Rattle.arithmetic.specs.declared.answer.Outcome.{Outcome}
 use Rattle.arithmetic.specs.declared.answer.Outcome.the-variants.{Done, Refused}
 use Rattle.arithmetic.specs.declared.answer.Question.{Question}
@@ -23,9 +23,8 @@ use Rattle.arithmetic.specs.declared.answer.Refusal.{Refusal}
 use Rattle.arithmetic.proofs.MatrixLaws.{square-le, length-grid, row-end, tab-is}
 use Rattle.arithmetic.proofs.Slots.{slot-store, only-store, only-trans, only-more, cleared-only}
 use Rattle.arithmetic.proofs.States.{among, member-among}
-use Rattle.arithmetic.proofs.QuestionLaws.{as-refused}
 use Rattle.arithmetic.proofs.AnswerLaws.{answer-passed}
-use Rattle.arithmetic.proofs.OutputLaws.{Late, late-workspace}
+use Rattle.arithmetic.proofs.OutputLaws.{Late, late-workspace, exit-done, exit-refused, exit-as}
 use Rattle.functions.specs.Exponential.{block, quarter}
 use Rattle.functions.specs.Powers.{expM}
 use Rattle.functions.specs.Derivatives.{frechetExpM, blockQuarters}
@@ -41,6 +40,13 @@ pub quarters-outcome : (n : ℕ) (x : Result (List Float)) → outcome (blockQua
 unfolding blockQuarters outcome
 quarters-outcome n (refused k i j) = refl
 quarters-outcome n (done s x) = refl
+
+-- and their outputs are the quarters of its output, v
+quarters-read : (n : ℕ) (x : Result (List Float)) (v : List Float) → v ≡ exit (λ z. z) x v
+    → (quarter n 0 v ≡ exit (λ (b : Both). b .value) (blockQuarters n x) (quarter n 0 v)) × (quarter n n v ≡ exit (λ (b : Both). b .derivative) (blockQuarters n x) (quarter n n v))
+unfolding blockQuarters exit
+quarters-read n (refused k i j) v r = (refl, refl)
+quarters-read n (done s x) v r = (ap (quarter n 0) r, ap (quarter n n) r)
 
 pub late-frechetExpM : (f : Format) (n : ℕ) (a e : List Float) → Late (frechetExpM f n a e)
 unfolding frechetExpM blockQuarters
@@ -63,18 +69,10 @@ slot-front n w h = tab-is nan (n * n) (λ i. item w (256 * 0 + i)) (take (n * n)
 
 pub quartered-done : (n : ℕ) (given : Outcome) (w first first′ second second′ : List Float) (s : ℕ) → given ≡ Done s → first′ ≡ quarter n 0 (slot (n + n) w 0) → second′ ≡ quarter n n (slot (n + n) w 0)
     → Quartered n given (Done s) w first first′ second second′
-unfolding exit
-quartered-done n given w first first′ second second′ s e p q = rw e (record { outcome = refl; value = p; derivative = q })
+quartered-done n given w first first′ second second′ s e p q = record { outcome = ap reported (sym e); value = p ∙ sym (exit-done _ first given s e); derivative = q ∙ sym (exit-done _ second given s e) }
 
 pub quartered-none : (n : ℕ) (given : Outcome) (w first second : List Float) (y : Refusal) → given ≡ Refused y → Quartered n given (Refused y) w first first second second
-unfolding exit
-quartered-none n given w first second y e =
-    let (i, j, l, k) = as-refused y in
-    rw e (record {
-      outcome = refl;
-      value = sym (ap (λ (z : Result (Unit {0})). exit (λ _. quarter n 0 (slot (n + n) w 0)) z first) k);
-      derivative = sym (ap (λ (z : Result (Unit {0})). exit (λ _. quarter n n (slot (n + n) w 0)) z second) k);
-    })
+quartered-none n given w first second y e = record { outcome = ap reported (sym e); value = sym (exit-refused _ first given y e); derivative = sym (exit-refused _ second given y e) }
 
 -- ---- all the steps
 
@@ -82,7 +80,7 @@ quartered-none n given w first second y e =
 pub frechet-written : (f : Format) (n : ℕ) (ss : List ℕ) (a e first first′ second second′ w w1 w2 : List Float) (given o : Outcome) → Room (n + n) w → among (λ s. ltb s 32) ss ≡ true
     → w1 ≡ store w 0 (block n a e) → Replaced ss (n + n) (expM f (n + n) (slot (n + n) w1 0)) given w1 w2 → Quartered n given o w2 first first′ second second′
     → Written (frechetExpM f n a e) o first first′ second second′ w w2
-unfolding frechetExpM blockQuarters outcome exit
+unfolding frechetExpM
 frechet-written f n ss a e first first′ second second′ w w1 w2 given o r m e1 R Q =
     go (expM f (n + n) (block n a e)) (R′ .outcome) (R′ .result)
   where
@@ -99,29 +97,26 @@ frechet-written f n ss a e first first′ second second′ w w1 w2 given o r m e
     within = only-trans (rw e1 (only-store (λ s. ltb s 32) w 0 (block n a e) refl (omega (arith, few, length-block n a e)))) (only-more (member-among (λ s. ltb s 32) ss m) (R .only))
 
     go : (x : Result (List Float)) → reported given ≡ outcome x → slot (n + n) w2 0 ≡ exit (λ v. v) x (slot (n + n) w2 0) → Written (blockQuarters n x) o first first′ second second′ w w2
-    go (refused k i j) p q = record {
-      outcome = Q .outcome ∙ p;
-      value = Q .value ∙ ap (λ (z : Result (Unit {0})). exit (λ _. quarter n 0 (slot (n + n) w2 0)) z first) p;
-      derivative = Q .derivative ∙ ap (λ (z : Result (Unit {0})). exit (λ _. quarter n n (slot (n + n) w2 0)) z second) p;
-      only = within;
-    }
-    go (done s x) p q = record {
-      outcome = Q .outcome ∙ p;
-      value = Q .value ∙ ap (λ (z : Result (Unit {0})). exit (λ _. quarter n 0 (slot (n + n) w2 0)) z first) p ∙ ap (quarter n 0) q;
-      derivative = Q .derivative ∙ ap (λ (z : Result (Unit {0})). exit (λ _. quarter n n (slot (n + n) w2 0)) z second) p ∙ ap (quarter n n) q;
-      only = within;
-    }
+    go x p q =
+        let same : reported given ≡ outcome (blockQuarters n x) = p ∙ sym (quarters-outcome n x) in
+        let (v, d) = quarters-read n x (slot (n + n) w2 0) q in
+        record {
+          outcome = Q .outcome ∙ same;
+          value = Q .value ∙ exit-as _ first given (blockQuarters n x) (λ (b : Both). b .value) same v;
+          derivative = Q .derivative ∙ exit-as _ second given (blockQuarters n x) (λ (b : Both). b .derivative) same d;
+          only = within;
+        }
 
 -- ---- the call
 
-module _ (p : Profile) (c : Call) (q : Question) (h : found q ≡ asked p c) (o : Outcome) (x : Result Both) (first second w : List Float) where
-  -- no question refuses: the outputs are written and the workspace is cleared
-  pub two-written : (first′ second′ w1 w2 : List Float) → q ≡ Passed → Late x → 8192 ≤ length w → Written x o first first′ second second′ w w1 → w2 ≡ cleared w1
-      → TwoOutputsIn (answer p c x) o first first′ second second′ w w2
+module _ (p : Profile) (c : Call) (q : Question) (h : found q ≡ asked p c) (clears : Bool) (o : Outcome) (x : Result Both) (first second w : List Float) where
+  -- no question refuses: the outputs are written, and the workspace is cleared where `clears` is true
+  pub two-written : (first′ second′ w1 w2 : List Float) → q ≡ Passed → Late x → 8192 ≤ length w → Written x o first first′ second second′ w w1 → (clears ≡ true → w2 ≡ cleared w1)
+      → TwoOutputsWith clears (answer p c x) o first first′ second second′ w w2
   two-written first′ second′ w1 w2 e l room W v =
       rw (answer-passed p c x q h e) (record {
         outcome = W .outcome;
         value = W .value;
         derivative = W .derivative;
-        workspace = v ∙ cleared-only w w1 room (W .only) ∙ sym (late-workspace x w l);
+        workspace = λ t. v t ∙ cleared-only w w1 room (W .only) ∙ sym (late-workspace x w l);
       })

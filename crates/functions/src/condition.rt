@@ -1,6 +1,6 @@
 // The condition of the exponential at A, in the one direction I / root of n.
 ghost use mathlib.Core.Path.{_≡_};
-ghost use mathlib.Core.Bool.{cond};
+ghost use mathlib.Core.Bool.{cond, true};
 ghost use Prim.Native.Nat.{_*_, _+_, _≤_};
 ghost use lib.Dec.{ltb};
 ghost use lib.ListN.{length};
@@ -21,7 +21,7 @@ use arithmetic::float::of_small;
 use arithmetic::norm::sum_of_squares;
 use arithmetic::question::ask_cond_expm;
 use arithmetic::root::sqrt;
-use arithmetic::workspace::clear;
+use arithmetic::workspace::clear_where;
 use arithmetic::workspace::copy_out;
 use arithmetic::workspace::diagonal;
 
@@ -143,17 +143,31 @@ fn cond_expm_with_room(n: usize, a: &[f64], w: &mut [f64]) -> ConditionAnswer
     cond_expm_in(n, a, &mut e[..count], &mut x[..count], &mut d[..count], w)
 }
 
-// The condition of the exponential at the matrix a.
-pub fn cond_expm(rows: usize, columns: usize, a: &[f64], w: &mut [f64]) -> ConditionAnswer
+// `cond_expm`, where the workspace is cleared only if `clears` is true.
+pub fn cond_expm_with(
+    rows: usize,
+    columns: usize,
+    a: &[f64],
+    w: &mut [f64],
+    clears: bool,
+) -> ConditionAnswer
     ensures { λ r. ⌜ Conditioned (condExpm binary64 rows columns (now (a .entry)) (length (now (w .entry)))) (r .outcome) (r .ratio) (r .derivative) (r .exponential) ⌝ }
-    ensures { λ _. ⌜ now (w .exit) ≡ workspace (condExpm binary64 rows columns (now (a .entry)) (length (now (w .entry)))) (now (w .entry)) ⌝ }
+    ensures { λ _. ⌜ (clears ≡ true → now (w .exit) ≡ workspace (condExpm binary64 rows columns (now (a .entry)) (length (now (w .entry)))) (now (w .entry))) ⌝ }
 {
     match ask_cond_expm(rows, columns, a, w.len()) {
         Question::No(why) => refused_condition(why),
         Question::Passed => {
             let answer = cond_expm_with_room(rows, a, w);
-            clear(w);
+            clear_where(w, clears);
             answer
         }
     }
+}
+
+// The condition of the exponential at the matrix a.
+pub fn cond_expm(rows: usize, columns: usize, a: &[f64], w: &mut [f64]) -> ConditionAnswer
+    ensures { λ r. ⌜ Conditioned (condExpm binary64 rows columns (now (a .entry)) (length (now (w .entry)))) (r .outcome) (r .ratio) (r .derivative) (r .exponential) ⌝ }
+    ensures { λ _. ⌜ now (w .exit) ≡ workspace (condExpm binary64 rows columns (now (a .entry)) (length (now (w .entry)))) (now (w .entry)) ⌝ }
+{
+    cond_expm_with(rows, columns, a, w, true)
 }

@@ -3,7 +3,7 @@ ghost use mathlib.Core.List.{[], _∷_};
 ghost use lib.ListN.{length};
 ghost use lib.Ieee.{binary64};
 ghost use Rattle.arithmetic.specs.Workspace.{Room, slot};
-ghost use Rattle.arithmetic.specs.Outputs.{OneOutputIn, Replaced};
+ghost use Rattle.arithmetic.specs.Outputs.{OneOutputIn, OneOutputWith, Replaced};
 ghost use Rattle.functions.specs.Powers.{expM};
 ghost use Rattle.functions.specs.Calls.{expm as expmOf};
 use crate::exponential::exponential_at;
@@ -32,16 +32,30 @@ pub fn expm_in(w: &mut [f64], n: usize) -> Outcome
     }
 }
 
-// The exponential of the matrix a is written to out.
-pub fn expm(rows: usize, columns: usize, a: &[f64], out: &mut [f64], w: &mut [f64]) -> Answer
-    ensures { λ r. ⌜ OneOutputIn (expmOf binary64 rows columns (now (a .entry)) (length (now (out .entry))) (length (now (w .entry)))) (r .outcome) (now (out .entry)) (now (out .exit)) (now (w .entry)) (now (w .exit)) ⌝ }
+// `expm`, where the workspace is cleared only if `clears` is true.
+pub fn expm_with(
+    rows: usize,
+    columns: usize,
+    a: &[f64],
+    out: &mut [f64],
+    w: &mut [f64],
+    clears: bool,
+) -> Answer
+    ensures { λ r. ⌜ OneOutputWith clears (expmOf binary64 rows columns (now (a .entry)) (length (now (out .entry))) (length (now (w .entry)))) (r .outcome) (now (out .entry)) (now (out .exit)) (now (w .entry)) (now (w .exit)) ⌝ }
 {
     match ask_expm(rows, columns, a, out.len(), w.len()) {
         Question::No(why) => refused(why),
         Question::Passed => {
             copy_in(w, 0, a);
             let outcome = expm_in(w, rows);
-            deliver(outcome, out, w)
+            deliver(outcome, out, w, clears)
         }
     }
+}
+
+// The exponential of the matrix a is written to out.
+pub fn expm(rows: usize, columns: usize, a: &[f64], out: &mut [f64], w: &mut [f64]) -> Answer
+    ensures { λ r. ⌜ OneOutputIn (expmOf binary64 rows columns (now (a .entry)) (length (now (out .entry))) (length (now (w .entry)))) (r .outcome) (now (out .entry)) (now (out .exit)) (now (w .entry)) (now (w .exit)) ⌝ }
+{
+    expm_with(rows, columns, a, out, w, true)
 }

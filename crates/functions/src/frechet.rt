@@ -5,7 +5,7 @@ ghost use lib.ListN.{length};
 ghost use lib.Ieee.{binary64};
 ghost use Rattle.arithmetic.specs.Matrix.{withRow};
 ghost use Rattle.arithmetic.specs.Workspace.{Room, slot, store};
-ghost use Rattle.arithmetic.specs.Outputs.{TwoOutputsIn};
+ghost use Rattle.arithmetic.specs.Outputs.{TwoOutputsIn, TwoOutputsWith};
 ghost use Rattle.functions.specs.Exponential.{block, quarter, quarterRow};
 ghost use Rattle.functions.specs.Frechet.{FirstAlone, Quartered, Written};
 ghost use Rattle.functions.specs.Derivatives.{frechetExpM};
@@ -17,7 +17,7 @@ use arithmetic::answer::Question;
 use arithmetic::answer::refused;
 use arithmetic::matrix::place;
 use arithmetic::question::ask_frechet_expm;
-use arithmetic::workspace::clear;
+use arithmetic::workspace::clear_where;
 use arithmetic::workspace::zero;
 
 // Slot 0 becomes the block [A E; 0 A].
@@ -107,8 +107,8 @@ pub fn frechet_expm_in(
     write_quarters(outcome, w, n, first, second)
 }
 
-// The exponential of A and its derivative in the direction E, of height by width, are written to first and second. The second clause is demand 3.
-pub fn frechet_expm(
+// `frechet_expm`, where the workspace is cleared only if `clears` is true.
+pub fn frechet_expm_with(
     rows: usize,
     columns: usize,
     a: &[f64],
@@ -118,8 +118,9 @@ pub fn frechet_expm(
     first: &mut [f64],
     second: &mut [f64],
     w: &mut [f64],
+    clears: bool,
 ) -> Answer
-    ensures { λ r. ⌜ TwoOutputsIn (frechetExpm binary64 rows columns (now (a .entry)) height width (now (e .entry)) (length (now (first .entry))) (length (now (second .entry))) (length (now (w .entry)))) (r .outcome) (now (first .entry)) (now (first .exit)) (now (second .entry)) (now (second .exit)) (now (w .entry)) (now (w .exit)) ⌝ }
+    ensures { λ r. ⌜ TwoOutputsWith clears (frechetExpm binary64 rows columns (now (a .entry)) height width (now (e .entry)) (length (now (first .entry))) (length (now (second .entry))) (length (now (w .entry)))) (r .outcome) (now (first .entry)) (now (first .exit)) (now (second .entry)) (now (second .exit)) (now (w .entry)) (now (w .exit)) ⌝ }
     ensures { λ r. ⌜ FirstAlone binary64 rows (r .outcome) (now (a .entry)) (now (e .entry)) (now (first .exit)) ⌝ }
 {
     match ask_frechet_expm(
@@ -136,8 +137,26 @@ pub fn frechet_expm(
         Question::No(why) => refused(why),
         Question::Passed => {
             let outcome = frechet_expm_in(rows, a, e, first, second, w);
-            clear(w);
+            clear_where(w, clears);
             Answer { outcome }
         }
     }
+}
+
+// The exponential of A and its derivative in the direction E, of height by width, are written to first and second. The second clause is demand 3.
+pub fn frechet_expm(
+    rows: usize,
+    columns: usize,
+    a: &[f64],
+    height: usize,
+    width: usize,
+    e: &[f64],
+    first: &mut [f64],
+    second: &mut [f64],
+    w: &mut [f64],
+) -> Answer
+    ensures { λ r. ⌜ TwoOutputsIn (frechetExpm binary64 rows columns (now (a .entry)) height width (now (e .entry)) (length (now (first .entry))) (length (now (second .entry))) (length (now (w .entry)))) (r .outcome) (now (first .entry)) (now (first .exit)) (now (second .entry)) (now (second .exit)) (now (w .entry)) (now (w .exit)) ⌝ }
+    ensures { λ r. ⌜ FirstAlone binary64 rows (r .outcome) (now (a .entry)) (now (e .entry)) (now (first .exit)) ⌝ }
+{
+    frechet_expm_with(rows, columns, a, height, width, e, first, second, w, true)
 }

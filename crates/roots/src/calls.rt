@@ -1,7 +1,7 @@
 // The public calls of the square root and the logarithm. Each asks its questions first.
 ghost use lib.ListN.{length};
 ghost use lib.Ieee.{binary64};
-ghost use Rattle.arithmetic.specs.Outputs.{OneOutputIn, TwoOutputsIn};
+ghost use Rattle.arithmetic.specs.Outputs.{OneOutputIn, OneOutputWith, TwoOutputsIn, TwoOutputsWith};
 ghost use Rattle.functions.specs.Calls.{frechetLogm, frechetSqrtm, sqrtm as sqrtmOf, logm as logmOf};
 use crate::log_derivative::frechet_logm_in;
 use crate::logarithm::logm_in;
@@ -18,16 +18,51 @@ use arithmetic::question::ask_logm;
 use arithmetic::question::ask_sqrtm;
 use arithmetic::workspace::copy_in;
 
-// The square root of the matrix a is written to out.
-pub fn sqrtm(rows: usize, columns: usize, a: &[f64], out: &mut [f64], w: &mut [f64]) -> Answer
-    ensures { λ r. ⌜ OneOutputIn (sqrtmOf binary64 rows columns (now (a .entry)) (length (now (out .entry))) (length (now (w .entry)))) (r .outcome) (now (out .entry)) (now (out .exit)) (now (w .entry)) (now (w .exit)) ⌝ }
+// `sqrtm`, where the workspace is cleared only if `clears` is true.
+pub fn sqrtm_with(
+    rows: usize,
+    columns: usize,
+    a: &[f64],
+    out: &mut [f64],
+    w: &mut [f64],
+    clears: bool,
+) -> Answer
+    ensures { λ r. ⌜ OneOutputWith clears (sqrtmOf binary64 rows columns (now (a .entry)) (length (now (out .entry))) (length (now (w .entry)))) (r .outcome) (now (out .entry)) (now (out .exit)) (now (w .entry)) (now (w .exit)) ⌝ }
 {
     match ask_sqrtm(rows, columns, a, out.len(), w.len()) {
         Question::No(why) => refused(why),
         Question::Passed => {
             copy_in(w, 0, a);
             let outcome = sqrtm_in(w, rows);
-            deliver(outcome, out, w)
+            deliver(outcome, out, w, clears)
+        }
+    }
+}
+
+// The square root of the matrix a is written to out.
+pub fn sqrtm(rows: usize, columns: usize, a: &[f64], out: &mut [f64], w: &mut [f64]) -> Answer
+    ensures { λ r. ⌜ OneOutputIn (sqrtmOf binary64 rows columns (now (a .entry)) (length (now (out .entry))) (length (now (w .entry)))) (r .outcome) (now (out .entry)) (now (out .exit)) (now (w .entry)) (now (w .exit)) ⌝ }
+{
+    sqrtm_with(rows, columns, a, out, w, true)
+}
+
+// `logm`, where the workspace is cleared only if `clears` is true.
+pub fn logm_with(
+    rows: usize,
+    columns: usize,
+    a: &[f64],
+    out: &mut [f64],
+    w: &mut [f64],
+    clears: bool,
+) -> Answer
+    ensures { λ r. ⌜ OneOutputWith clears (logmOf binary64 rows columns (now (a .entry)) (length (now (out .entry))) (length (now (w .entry)))) (r .outcome) (now (out .entry)) (now (out .exit)) (now (w .entry)) (now (w .exit)) ⌝ }
+{
+    match ask_logm(rows, columns, a, out.len(), w.len()) {
+        Question::No(why) => refused(why),
+        Question::Passed => {
+            copy_in(w, 0, a);
+            let outcome = logm_in(w, rows);
+            deliver(outcome, out, w, clears)
         }
     }
 }
@@ -36,12 +71,41 @@ pub fn sqrtm(rows: usize, columns: usize, a: &[f64], out: &mut [f64], w: &mut [f
 pub fn logm(rows: usize, columns: usize, a: &[f64], out: &mut [f64], w: &mut [f64]) -> Answer
     ensures { λ r. ⌜ OneOutputIn (logmOf binary64 rows columns (now (a .entry)) (length (now (out .entry))) (length (now (w .entry)))) (r .outcome) (now (out .entry)) (now (out .exit)) (now (w .entry)) (now (w .exit)) ⌝ }
 {
-    match ask_logm(rows, columns, a, out.len(), w.len()) {
+    logm_with(rows, columns, a, out, w, true)
+}
+
+// `frechet_logm`, where the workspace is cleared only if `clears` is true.
+pub fn frechet_logm_with(
+    rows: usize,
+    columns: usize,
+    a: &[f64],
+    height: usize,
+    width: usize,
+    e: &[f64],
+    first: &mut [f64],
+    second: &mut [f64],
+    w: &mut [f64],
+    clears: bool,
+) -> Answer
+    ensures { λ r. ⌜ TwoOutputsWith clears (frechetLogm binary64 rows columns (now (a .entry)) height width (now (e .entry)) (length (now (first .entry))) (length (now (second .entry))) (length (now (w .entry)))) (r .outcome) (now (first .entry)) (now (first .exit)) (now (second .entry)) (now (second .exit)) (now (w .entry)) (now (w .exit)) ⌝ }
+{
+    match ask_frechet_logm(
+        rows,
+        columns,
+        a,
+        height,
+        width,
+        e,
+        first.len(),
+        second.len(),
+        w.len(),
+    ) {
         Question::No(why) => refused(why),
         Question::Passed => {
             copy_in(w, 0, a);
-            let outcome = logm_in(w, rows);
-            deliver(outcome, out, w)
+            copy_in(w, 4, e);
+            let outcome = frechet_logm_in(w, rows);
+            deliver_both(outcome, first, second, w, clears)
         }
     }
 }
@@ -60,7 +124,25 @@ pub fn frechet_logm(
 ) -> Answer
     ensures { λ r. ⌜ TwoOutputsIn (frechetLogm binary64 rows columns (now (a .entry)) height width (now (e .entry)) (length (now (first .entry))) (length (now (second .entry))) (length (now (w .entry)))) (r .outcome) (now (first .entry)) (now (first .exit)) (now (second .entry)) (now (second .exit)) (now (w .entry)) (now (w .exit)) ⌝ }
 {
-    match ask_frechet_logm(
+    frechet_logm_with(rows, columns, a, height, width, e, first, second, w, true)
+}
+
+// `frechet_sqrtm`, where the workspace is cleared only if `clears` is true.
+pub fn frechet_sqrtm_with(
+    rows: usize,
+    columns: usize,
+    a: &[f64],
+    height: usize,
+    width: usize,
+    e: &[f64],
+    first: &mut [f64],
+    second: &mut [f64],
+    w: &mut [f64],
+    clears: bool,
+) -> Answer
+    ensures { λ r. ⌜ TwoOutputsWith clears (frechetSqrtm binary64 rows columns (now (a .entry)) height width (now (e .entry)) (length (now (first .entry))) (length (now (second .entry))) (length (now (w .entry)))) (r .outcome) (now (first .entry)) (now (first .exit)) (now (second .entry)) (now (second .exit)) (now (w .entry)) (now (w .exit)) ⌝ }
+{
+    match ask_frechet_sqrtm(
         rows,
         columns,
         a,
@@ -74,9 +156,9 @@ pub fn frechet_logm(
         Question::No(why) => refused(why),
         Question::Passed => {
             copy_in(w, 0, a);
-            copy_in(w, 4, e);
-            let outcome = frechet_logm_in(w, rows);
-            deliver_both(outcome, first, second, w)
+            copy_in(w, 6, e);
+            let outcome = frechet_sqrtm_in(w, rows);
+            deliver_both(outcome, first, second, w, clears)
         }
     }
 }
@@ -95,23 +177,5 @@ pub fn frechet_sqrtm(
 ) -> Answer
     ensures { λ r. ⌜ TwoOutputsIn (frechetSqrtm binary64 rows columns (now (a .entry)) height width (now (e .entry)) (length (now (first .entry))) (length (now (second .entry))) (length (now (w .entry)))) (r .outcome) (now (first .entry)) (now (first .exit)) (now (second .entry)) (now (second .exit)) (now (w .entry)) (now (w .exit)) ⌝ }
 {
-    match ask_frechet_sqrtm(
-        rows,
-        columns,
-        a,
-        height,
-        width,
-        e,
-        first.len(),
-        second.len(),
-        w.len(),
-    ) {
-        Question::No(why) => refused(why),
-        Question::Passed => {
-            copy_in(w, 0, a);
-            copy_in(w, 6, e);
-            let outcome = frechet_sqrtm_in(w, rows);
-            deliver_both(outcome, first, second, w)
-        }
-    }
+    frechet_sqrtm_with(rows, columns, a, height, width, e, first, second, w, true)
 }

@@ -14,8 +14,8 @@ copy-out-requires c κs = search needs
 copy-out-requires-2 : tie.Need-copy-out-requires-2
 copy-out-requires-2 c κs = search needs
 
-clear-requires : tie.Need-clear-requires
-clear-requires c κs = search needs
+clear-where-requires : tie.Need-clear-where-requires
+clear-where-requires c κs = search needs
 
 done-requires : tie.Need-done-requires
 done-requires c κs = search needs
@@ -23,8 +23,8 @@ done-requires c κs = search needs
 enum-known-outcome-2 : tie.Need-enum-known-outcome-2
 enum-known-outcome-2 c = search needs
 
-clear-requires-2 : tie.Need-clear-requires-2
-clear-requires-2 c κs = search needs
+clear-where-requires-2 : tie.Need-clear-where-requires-2
+clear-where-requires-2 c κs = search needs
 
 refused-requires : tie.Need-refused-requires
 refused-requires c κs = search needs
@@ -41,8 +41,8 @@ same-length-3 c = search needs
 returns : tie.Need-returns
 returns c =
     let a = c .before .before .before .before .before .before .before .before .before .before .before .before .before .before .before .before .before .before .before .before .before .args in
-    both-delivered (a .outcome) (c .done .result .outcome) _ _ (now (a .first)) (now (a .second)) (now (a .w)) (c .before .before .before .clear .last .0) (c .before .before .before .before .before .before .before .before .before .before .before .before .copy-out .last .1 .1 .0) (c .before .before .before .before .before .before .before .copy-out2 .last .1 .1 .0) _ (c .before .before .before .before .before .before .before .before .before .before .before .before .before .before .before .before .outcome .given .1) (c .done .ensures)
-    (c .before .before .before .before .before .before .before .before .before .before .before .before .copy-out .ensures) (c .before .before .before .before .before .before .before .copy-out2 .ensures) (c .before .before .before .clear .ensures)
+    both-delivered (a .clears) (a .outcome) (c .done .result .outcome) _ _ (now (a .first)) (now (a .second)) (now (a .w)) (c .before .before .before .clear-where .last .0) (c .before .before .before .before .before .before .before .before .before .before .before .before .copy-out .last .1 .1 .0) (c .before .before .before .before .before .before .before .copy-out2 .last .1 .1 .0) _ (c .before .before .before .before .before .before .before .before .before .before .before .before .before .before .before .before .outcome .given .1) (c .done .ensures)
+    (c .before .before .before .before .before .before .before .before .before .before .before .before .copy-out .ensures) (c .before .before .before .before .before .before .before .copy-out2 .ensures) (c .before .before .before .clear-where .ensures)
 
 same-length-4 : tie.Need-same-length-4
 same-length-4 c = search needs
@@ -50,7 +50,7 @@ same-length-4 c = search needs
 returns-2 : tie.Need-returns-2
 returns-2 c =
     let a = c .before .before .before .before .before .before .before .before .before .before .before .args in
-    both-kept (a .outcome) (c .refused .result .outcome) _ _ (now (a .first)) (now (a .second)) (now (a .w)) (c .before .before .before .clear2 .last .0) _ (c .before .before .before .before .before .before .outcome2 .given .1) (c .refused .ensures) (c .before .before .before .clear2 .ensures)
+    both-kept (a .clears) (a .outcome) (c .refused .result .outcome) _ _ (now (a .first)) (now (a .second)) (now (a .w)) (c .before .before .before .clear-where2 .last .0) _ (c .before .before .before .before .before .before .outcome2 .given .1) (c .refused .ensures) (c .before .before .before .clear-where2 .ensures)
 
 pub deliver-both-spec : {M : Type 1} → statement M
 deliver-both-spec =
@@ -59,10 +59,10 @@ deliver-both-spec =
     enum-known-outcome
     copy-out-requires
     copy-out-requires-2
-    clear-requires
+    clear-where-requires
     done-requires
     enum-known-outcome-2
-    clear-requires-2
+    clear-where-requires-2
     refused-requires
     same-length
     same-length-2

@@ -1,89 +1,17 @@
 -- `cond_expm` meets its contract. Assumes nothing.
-use mathlib.Core.Path.{sym}
-use mathlib.Core.Bool.{false}
-use mathlib.Core.List.{[]}
-use native.Mathlib.Omega.{arith}
-use denote.Ref.{now}
-use lib.ListN.{length}
-use lib.Ieee.{binary64}
-use Rattle.arithmetic.specs.Questions.{unary, anywhere, ofCondExpm}
-use Rattle.arithmetic.proofs.QuestionLaws.{accepted}
-use Rattle.arithmetic.proofs.AnswerLaws.{workspace-no}
-use Rattle.functions.specs.Derivatives.{condExpM}
-use Rattle.functions.specs.Calls.{condExpm}
-use Rattle.functions.proofs.ConditionLaws.{condition-refused, condition-passed, workspace-passed, late-condExpM}
+use mathlib.Core.Path.{refl}
 use borrow.Author.Needs.{needs}
 use Rattle.functions.proofs.condition.cond_expm.Statement.{statement}
 use Rattle.functions.proofs.condition.cond_expm.Tie as tie
 
-ask-cond-expm-requires : tie.Need-ask-cond-expm-requires
-ask-cond-expm-requires c κs = search needs
-
-enum-known-why : tie.Need-enum-known-why
-enum-known-why c = search needs
-
-refused-condition-requires : tie.Need-refused-condition-requires
-refused-condition-requires c κs = search needs
-
-enum-told : tie.Need-enum-told
-enum-told c = search needs
-
-cond-expm-with-room-requires : tie.Need-cond-expm-with-room-requires
-cond-expm-with-room-requires c κs =
-    let a = c .before .before .before .before .before .before .args in
-    let asked = c .before .before .before .ask-cond-expm in
-    let call = unary (a .rows) (a .columns) (now (a .a)) [] (length (now (a .w))) in
-    let s = accepted false anywhere false call (asked .result) (asked .ensures) (c .before .enum-told .given .1) .shape in
-    (record { order = omega (arith, s .small); space = s .room }, (s .small, s .long))
-
-clear-requires : tie.Need-clear-requires
-clear-requires c κs =
-    let a = c .before .before .before .before .before .before .before .before .before .before .args in
-    let asked = c .before .before .before .before .before .before .before .ask-cond-expm in
-    let call = unary (a .rows) (a .columns) (now (a .a)) [] (length (now (a .w))) in
-    let s = accepted false anywhere false call (asked .result) (asked .ensures) (c .before .before .before .before .before .enum-told .given .1) .shape in
-    omega (arith, s .room, c .before .before .before .cond-expm-with-room .ensures .1 .long)
-
-returns : tie.Need-returns
-unfolding condExpm
-returns c =
-    let a = c .before .before .before .before .before .before .before .args in
-    let asked = c .before .before .before .before .ask-cond-expm in
-    let call = unary (a .rows) (a .columns) (now (a .a)) [] (length (now (a .w))) in
-    let r = c .refused-condition in
-    let x = condExpM binary64 (a .rows) (now (a .a)) in
-    let t = c .before .before .why .given .1 in (
-      condition-refused ofCondExpm call (asked .result) (asked .ensures) (r .result .outcome) x (r .result .ratio) (r .result .derivative) (r .result .exponential) _ t (r .ensures .0) (r .ensures .1) (r .ensures .2) (r .ensures .3),
-      sym (workspace-no ofCondExpm call x (asked .result) (asked .ensures) _ t (now (a .w))),
-    )
+cond-expm-with-requires : tie.Need-cond-expm-with-requires
+cond-expm-with-requires c κs = search needs
 
 same-length : tie.Need-same-length
 same-length c = search needs
 
-returns-2 : tie.Need-returns-2
-unfolding condExpm
-returns-2 c =
-    let a = c .before .before .before .before .before .before .before .before .before .before .before .before .before .args in
-    let asked = c .before .before .before .before .before .before .before .before .before .before .ask-cond-expm in
-    let call = unary (a .rows) (a .columns) (now (a .a)) [] (length (now (a .w))) in
-    let s = accepted false anywhere false call (asked .result) (asked .ensures) (c .before .before .before .before .before .before .before .before .enum-told .given .1) .shape in
-    let r = c .before .before .before .before .before .before .cond-expm-with-room in
-    let x = condExpM binary64 (a .rows) (now (a .a)) in
-    let t = c .before .before .before .before .before .before .before .before .enum-told .given .1 in (
-      condition-passed ofCondExpm call (asked .result) (asked .ensures) (r .result .outcome) x (r .result .ratio) (r .result .derivative) (r .result .exponential) t (r .ensures .0),
-      workspace-passed ofCondExpm call (asked .result) (asked .ensures) (r .result .outcome) x (r .result .ratio) (r .result .derivative) (r .result .exponential) (now (a .w)) (r .last .1 .1 .0) (c .before .before .clear .last .0) t (late-condExpM binary64 (a .rows) (now (a .a))) (s .room) (r .ensures .1) (c .before .before .clear .ensures),
-    )
+returns : tie.Need-returns
+returns c = (c .before .before .cond-expm-with .ensures .0, c .before .before .cond-expm-with .ensures .1 refl)
 
 pub cond-expm-spec : {M : Type 1} → statement M
-cond-expm-spec =
-    tie.close
-    (tie.spec
-    ask-cond-expm-requires
-    enum-known-why
-    refused-condition-requires
-    enum-told
-    cond-expm-with-room-requires
-    clear-requires
-    returns
-    same-length
-    returns-2)
+cond-expm-spec = tie.close (tie.spec cond-expm-with-requires same-length returns)

@@ -1,72 +1,11 @@
 -- `sinm` meets its contract. Assumes nothing.
-use mathlib.Core.Path.{refl, _∙_}
-use mathlib.Core.Bool.{true, false}
-use mathlib.Core.List.{[], _∷_}
-use lib.ListN.{length}
-use lib.Ieee.{binary64}
-use denote.Ref.{now}
-use Rattle.arithmetic.specs.Questions.{unary, anywhere, ofSinm}
-use Rattle.arithmetic.proofs.MatrixLaws.{square-le}
-use Rattle.arithmetic.proofs.QuestionLaws.{accepted}
-use Rattle.arithmetic.proofs.OutputLaws.{one-refused, one-done}
-use Rattle.functions.specs.Trigonometric.{sinM}
-use Rattle.functions.specs.Calls.{sinm}
-use Rattle.powers.proofs.SeriesLaws.{sine-late}
-use native.Mathlib.Omega.{arith}
+use Rattle.arithmetic.proofs.OutputLaws.{clearing-one}
 use borrow.Author.Needs.{needs}
 use Rattle.powers.proofs.calls.sinm.Statement.{statement}
 use Rattle.powers.proofs.calls.sinm.Tie as tie
 
-ask-expm-requires : tie.Need-ask-expm-requires
-ask-expm-requires c κs = search needs
-
-enum-known-why : tie.Need-enum-known-why
-enum-known-why c = search needs
-
-refused-requires : tie.Need-refused-requires
-refused-requires c κs = search needs
-
-enum-told : tie.Need-enum-told
-enum-told c = search needs
-
-copy-in-requires : tie.Need-copy-in-requires
-copy-in-requires c κs =
-    let asked = c .before .before .before .ask-expm in
-    let a = c .before .before .before .before .before .before .before .args in
-    let call = unary (a .rows) (a .columns) (now (a .a)) (length (now (a .out)) ∷ []) (length (now (a .w))) in
-    let s = accepted false anywhere true call (asked .result) (asked .ensures) (c .before .enum-told .given .1) .shape in
-    let few = square-le (a .rows) (omega (arith, s .small)) in
-    (omega arith, omega (arith, s .long, s .room, few))
-
-sinm-in-requires : tie.Need-sinm-in-requires
-sinm-in-requires c κs =
-    let copied = c .before .before .before in
-    let told = copied .before .before in
-    let asked = told .before .before .ask-expm in
-    let a = told .before .before .before .before .before .before .args in
-    let call = unary (a .rows) (a .columns) (now (a .a)) (length (now (a .out)) ∷ []) (length (now (a .w))) in
-    let s = accepted false anywhere true call (asked .result) (asked .ensures) (told .enum-told .given .1) .shape in
-    let few = square-le (a .rows) (omega (arith, s .small)) in
-    record { order = omega (arith, s .small); space = omega (arith, s .room, copied .copy-in .kept .0) }
-
-deliver-requires : tie.Need-deliver-requires
-deliver-requires c κs =
-    let run = c .before .before .before .before in
-    let copied = run .before .before .before .before in
-    let told = copied .before .before in
-    let asked = told .before .before .ask-expm in
-    let a = told .before .before .before .before .before .before .args in
-    let call = unary (a .rows) (a .columns) (now (a .a)) (length (now (a .out)) ∷ []) (length (now (a .w))) in
-    let s = accepted false anywhere true call (asked .result) (asked .ensures) (told .enum-told .given .1) .shape in
-    let few = square-le (a .rows) (omega (arith, s .small)) in
-    (omega (arith, s .outputs .0, few), omega (arith, s .room, run .sinm-in .kept .0 ∙ copied .copy-in .kept .0))
-
-returns : tie.Need-returns
-unfolding sinm
-returns c =
-    let asked = c .before .before .before .before .ask-expm in
-    let a = c .before .before .before .before .before .before .before .before .args in
-    one-refused ofSinm (unary (a .rows) (a .columns) (now (a .a)) (length (now (a .out)) ∷ []) (length (now (a .w)))) (asked .result) (asked .ensures) (c .refused .result .outcome) (now (a .out)) (now (a .w)) (sinM binary64 (a .rows) (now (a .a))) _ (c .before .before .why .given .1) (c .refused .ensures)
+sinm-with-requires : tie.Need-sinm-with-requires
+sinm-with-requires c κs = search needs
 
 same-length : tie.Need-same-length
 same-length c = search needs
@@ -74,33 +13,8 @@ same-length c = search needs
 same-length-2 : tie.Need-same-length-2
 same-length-2 c = search needs
 
-returns-2 : tie.Need-returns-2
-unfolding sinm
-returns-2 c =
-    let delivered = c .before .before .before .before in
-    let run = delivered .before .before .before .before .before in
-    let copied = run .before .before .before .before in
-    let told = copied .before .before in
-    let asked = told .before .before .ask-expm in
-    let a = told .before .before .before .before .before .before .args in
-    let call = unary (a .rows) (a .columns) (now (a .a)) (length (now (a .out)) ∷ []) (length (now (a .w))) in
-    let s = accepted false anywhere true call (asked .result) (asked .ensures) (told .enum-told .given .1) .shape in
-    let few = square-le (a .rows) (omega (arith, s .small)) in
-    one-done ofSinm call (asked .result) (asked .ensures) (delivered .deliver .result .outcome) (now (a .out)) (now (a .w)) (0 ∷ 1 ∷ 2 ∷ 3 ∷ 4 ∷ 5 ∷ []) (a .rows) (sinM binary64 (a .rows)) (now (a .a)) (delivered .deliver .last .1 .0) (copied .copy-in .last .0) (run .sinm-in .last .0) (delivered .deliver .last .1 .1 .0) (run .sinm-in .result)
-    (told .enum-told .given .1) (sine-late binary64 (a .rows) (now (a .a))) (omega (arith, s .small)) (s .room) (s .long) (s .outputs .0) refl (copied .copy-in .ensures) (run .sinm-in .ensures) (delivered .deliver .ensures)
+returns : tie.Need-returns
+returns c = clearing-one (c .before .before .before .before .sinm-with .ensures)
 
 pub sinm-spec : {M : Type 1} → statement M
-sinm-spec =
-    tie.close
-    (tie.spec
-    ask-expm-requires
-    enum-known-why
-    refused-requires
-    enum-told
-    copy-in-requires
-    sinm-in-requires
-    deliver-requires
-    returns
-    same-length
-    same-length-2
-    returns-2)
+sinm-spec = tie.close (tie.spec sinm-with-requires same-length same-length-2 returns)
