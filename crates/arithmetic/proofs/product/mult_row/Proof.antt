@@ -1,14 +1,13 @@
 -- `mult_row` meets its contract. The invariant: the first j entries of the row are written, and nothing else is changed. Assumes nothing.
-use Prim.Native.Nat.{_-_, _<_, _≤_}
+use Prim.Native.Nat.{_-_, _≤_}
 use native.Mathlib.Omega.{arith}
-use mathlib.Core.Path.{_≡_, refl}
-use lib.ListN.{length, length-set}
+use mathlib.Core.Path.{_≡_, refl, _∙_}
+use lib.ListN.{length}
 use lib.Ieee.{binary64}
 use Rattle.arithmetic.specs.Matrix.{tab, put}
 use Rattle.arithmetic.specs.Product.{rowDot}
-use Rattle.arithmetic.proofs.MatrixLaws.{length-tab}
-use Rattle.arithmetic.proofs.PartLaws.{put-none, put-tab-more}
-use Rattle.arithmetic.proofs.ProductLaws.{rowDot-kept}
+use Rattle.arithmetic.proofs.PartLaws.{put-none}
+use Rattle.arithmetic.proofs.ProductLaws.{rowDot-more}
 use Rattle.arithmetic.proofs.product.mult_row.Statement.{statement}
 use Rattle.arithmetic.proofs.product.mult_row.Tie as tie
 
@@ -21,17 +20,8 @@ abbrev μ-loop : tie.MeasureT-loop
 loop-holds : tie.Need-loop-holds Inv-loop μ-loop
 loop-holds c = (omega arith, refl, put-none _ _ _)
 
-row-dot-requires : tie.Need-row-dot-requires Inv-loop μ-loop
-row-dot-requires c κs = omega arith
-
-add-w : tie.Need-add-w Inv-loop μ-loop
-add-w c = omega arith
-
-mul-w : tie.Need-mul-w Inv-loop μ-loop
-mul-w c = omega arith
-
-slice-write-w : tie.Need-slice-write-w Inv-loop μ-loop
-slice-write-w c = omega arith
+mult-next-requires : tie.Need-mult-next-requires Inv-loop μ-loop
+mult-next-requires c κs = omega arith
 
 add-j : tie.Need-add-j Inv-loop μ-loop
 add-j c = omega arith
@@ -41,15 +31,14 @@ loop-less c = omega arith
 
 loop-again : tie.Need-loop-again Inv-loop μ-loop
 loop-again c =
-    let at-loop = c .before .before .before in
+    let next = c .before .before .mult-next in
+    let at-loop = c .before .before .before .before .before in
     let l = at-loop .loop in
     let a = at-loop .before .before .args in
-    let pre = at-loop .before .before .pre in
-    let j<n : l .j < a .n = omega arith in
-    let short : length (tab (l .j) (rowDot binary64 (a .n) (a .w .now) (a .x) (a .w .now) (a .b))) ≤ a .n = omega (arith, length-tab (l .j) (rowDot binary64 (a .n) (a .w .now) (a .x) (a .w .now) (a .b))) in (
-      omega arith,
-      simp length-set (l .inv .1),
-      rw (c .row-dot .ensures, l .inv .2, rowDot-kept binary64 _ _ _ _ _ _ _ _ j<n (pre .1 .0) (pre .1 .1) short) (put-tab-more _ _ _ _),
+    let pre = at-loop .before .before .pre in (
+      next .ensures .1,
+      next .kept .0 ∙ l .inv .1,
+      rw (next .ensures .2, l .inv .2) (rowDot-more binary64 (a .n) (a .w .now) (a .x) (a .b) (a .y) (l .j) (next .result) (next .ensures .1) (pre .1 .0) (pre .1 .1)),
     )
 
 same-length : tie.Need-same-length Inv-loop μ-loop
@@ -67,10 +56,7 @@ mult-row-spec =
     Inv-loop
     μ-loop
     loop-holds
-    row-dot-requires
-    add-w
-    mul-w
-    slice-write-w
+    mult-next-requires
     add-j
     loop-less
     loop-again
