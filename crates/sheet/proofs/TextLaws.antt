@@ -8,8 +8,8 @@ use native.Mathlib.Numerals.{add-one}
 use native.Mathlib.Nat.{pow-succ'}
 use borrow.Author.Tests.{lt-ltb, le-ltb}
 use lib.Dec.{ltb}
-use lib.ListN.{length, take, getD, length-append}
-use lib.Seq.{take-suc}
+use lib.ListN.{length, take, drop, getD, set, length-append}
+use lib.Seq.{take-suc, drop-at, set-split, append-snoc, length-take-le}
 use lib.Ieee.{Float, Format, nan, toBits}
 use Rattle.sheet.specs.Text.{glyph, hexDigits, orNone, decimalIn, decimal, numberText, field, numbersText}
 use Rattle.sheet.specs.Wrote.{Wrote}
@@ -22,18 +22,13 @@ unfolding hexDigits
 length-hexDigits zero n = refl
 length-hexDigits (suc k) n = simp (length-append, length-hexDigits k (n / 16)) (omega arith)
 
-pub hexDigits-none : (n : ℕ) → hexDigits 0 n ≡ []
+-- the places from k on stand; the digit before them is one more
+pub hex-step : (k n : ℕ) (p : List ℕ) → 0 < k → k ≤ length p → hexDigits (k - 1) (n / 16) ++ drop (k - 1) (set p (k - 1) (glyph (n % 16))) ≡ hexDigits k n ++ drop k p
 unfolding hexDigits
-hexDigits-none n = refl
-
-hexDigits-more : (k n : ℕ) → 0 < k → hexDigits k n ≡ hexDigits (k - 1) (n / 16) ++ (glyph (n % 16) ∷ [])
-unfolding hexDigits
-hexDigits-more zero n h = absurd (omega arith)
-hexDigits-more (suc k) n h = let e : suc k - 1 ≡ k = omega arith in rw e
-
--- the digits before the last, and then the last
-pub hex-step : (k n : ℕ) {o : List ℕ} {a : ℕ} {o′ : List ℕ} {a′ : ℕ} {o″ : List ℕ} {a″ : ℕ} → 0 < k → Wrote o a (hexDigits (k - 1) (n / 16)) o′ a′ → Wrote o′ a′ (glyph (n % 16) ∷ []) o″ a″ → Wrote o a (hexDigits k n) o″ a″
-hex-step k n h w v = rw (hexDigits-more k n) (wrote-more w v)
+hex-step zero n p h l = absurd (omega arith)
+hex-step (suc k) n p h l =
+    let e : suc k - 1 ≡ k = omega arith in
+    rw (e, set-split p k (glyph (n % 16)) l, drop-at (take k p) (glyph (n % 16) ∷ drop (suc k) p) k (length-take-le k p (omega arith)), append-snoc (hexDigits k (n / 16)) (glyph (n % 16)) (drop (suc k) p))
 
 -- ---- decimal digits
 

@@ -54,6 +54,6 @@ wrote-more {o} {a} {t} {o′} {a′} {u} {o″} {a″} w v =
 pub wrote-byte : (o : List ℕ) (a b : ℕ) → a < length o → Wrote o a (b ∷ []) (set o a b) (a + 1)
 wrote-byte o a b h = record { bytes = set-split o a b h ∙ rw (drop-drop 1 a o, add-one a); past = refl; fits = omega arith }
 
--- a lent part from a to a + length t has come back at t′, which is t
-pub wrote-part : (o : List ℕ) (a : ℕ) (t t′ : List ℕ) → a + length t ≤ length o → t′ ≡ t → Wrote o a t (take a o ++ (t′ ++ drop (a + length t - a) (drop a o))) (a + length t)
-wrote-part o a t t′ h e = let k : a + length t - a ≡ length t = omega arith in record { bytes = rw (e, k); past = refl; fits = h }
+-- a lent part from a to z has come back at t′, which is t
+pub wrote-part : (o : List ℕ) (a z : ℕ) (t t′ : List ℕ) → z ≡ a + length t → z ≤ length o → t′ ≡ t → Wrote o a t (take a o ++ (t′ ++ drop (z - a) (drop a o))) z
+wrote-part o a z t t′ l h e = let k : z - a ≡ length t = omega arith in record { bytes = rw (e, k); past = l; fits = omega arith }

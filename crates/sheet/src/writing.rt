@@ -25,16 +25,27 @@ pub fn put_byte(out: &mut [u8], at: usize, b: u8) -> usize
     at + 1
 }
 
+// The last hexadecimal digits of n over part, from the last place to the first.
+fn write_digits(part: &mut [u8], n: u64)
+    ensures { λ _. ⌜ now (part .exit) ≡ hexDigits (length (now (part .entry))) n ⌝ }
+{
+    let mut rest = n;
+    let mut left = part.len();
+    while 0 < left {
+        left -= 1;
+        part[left] = glyph(rest % 16);
+        rest = rest / 16;
+    }
+}
+
 // The last k hexadecimal digits of n.
 pub fn put_hex(out: &mut [u8], at: usize, k: usize, n: u64) -> usize
     requires { ⌜ (k ≤ 16) × (at + k ≤ length (now out)) ⌝ }
     ensures { λ r. ⌜ Wrote (now (out .entry)) at (hexDigits k n) (now (out .exit)) r ⌝ }
 {
-    if k == 0 {
-        return at;
-    }
-    let e = put_hex(out, at, k - 1, n / 16);
-    put_byte(out, e, glyph(n % 16))
+    let z = at + k;
+    write_digits(&mut out[at..z], n);
+    z
 }
 
 // n in decimal.

@@ -1,4 +1,5 @@
 -- `put_bytes` meets its contract. Assumes nothing.
+use mathlib.Core.Path.{refl}
 use native.Mathlib.Omega.{arith}
 use borrow.Author.Needs.{needs}
 use denote.Ref.{now}
@@ -27,7 +28,7 @@ same-length c = search needs
 returns : tie.Need-returns
 returns c =
     let a = c .before .before .before .before .before .before .args in
-    wrote-part (now (a .out)) (a .at) (now (a .text)) _ (omega arith) (c .before .before .copy-bytes .ensures)
+    wrote-part (now (a .out)) (a .at) _ (now (a .text)) _ refl (omega arith) (c .before .before .copy-bytes .ensures)
 
 pub put-bytes-spec : {M : Type 1} → statement M
 put-bytes-spec =
