@@ -6,5 +6,8 @@ pub mod sine;
 pub mod whole;
 
 pub use calls::cosm;
+pub use calls::cosm_with;
 pub use calls::powm;
+pub use calls::powm_with;
 pub use calls::sinm;
+pub use calls::sinm_with;

@@ -10,6 +10,10 @@ pub mod square_root;
 pub mod sylvester;
 
 pub use calls::frechet_logm;
+pub use calls::frechet_logm_with;
 pub use calls::frechet_sqrtm;
+pub use calls::frechet_sqrtm_with;
 pub use calls::logm;
+pub use calls::logm_with;
 pub use calls::sqrtm;
+pub use calls::sqrtm_with;

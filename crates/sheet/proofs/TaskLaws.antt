@@ -1,6 +1,7 @@
 -- The result of a task from what its call leaves, and the function of each code. Assumes nothing.
 use Prim.Native.Nat.{ℕ, _*_, _≤_, _<_}
 use mathlib.Core.Path.{_≡_, ap, sym, subst, _∙_}
+use mathlib.Core.Bool.{false}
 use mathlib.Core.List.{List, [], _∷_, _++_, append-nil}
 use borrow.Author.Tests.{lt-ltb, le-ltb, eq-eqb, ne-eqb}
 use lib.ListN.{length}
@@ -8,7 +9,7 @@ use lib.Ieee.{Float, Format}
 use Rattle.arithmetic.specs.Float.{+zero}
 use Rattle.arithmetic.specs.Result.{Result, refused, done, exit, outcome}
 use Rattle.arithmetic.specs.Answers.{reported}
-use Rattle.arithmetic.specs.Outputs.{Both, OneOutputIn, TwoOutputsIn}
+use Rattle.arithmetic.specs.Outputs.{Both, OneOutputWith, TwoOutputsWith}
 use Rattle.arithmetic.specs.declared.answer.Outcome.{Outcome}
 use Rattle.functions.specs.Derivatives.{Condition}
 use Rattle.functions.specs.Calls.{expm, logm, sqrtm, powm, cosm, sinm, frechetExpm, frechetLogm, frechetSqrtm, condExpm}
@@ -42,19 +43,19 @@ lined-as f task {x} {y} {o} {at} {o′} {r} e l = subst (λ (z : Result (List Fl
 -- ---- a call by its code: outputs have n * n numbers, and the workspace 8,192
 
 pub chosen-one : (n : ℕ) (g : ℕ → ℕ → Result (List Float)) (v : Result (List Float)) (o : Outcome) (x x′ w w′ : List Float) → length x ≡ n * n → length w ≡ 8192
-    → v ≡ g (n * n) 8192 → OneOutputIn (g (length x) (length w)) o x x′ w w′ → OneOutputIn v o x x′ w w′
+    → v ≡ g (n * n) 8192 → OneOutputWith false (g (length x) (length w)) o x x′ w w′ → OneOutputWith false v o x x′ w w′
 chosen-one n g v o x x′ w w′ h k e r =
-    let r1 = subst (λ (l : ℕ). OneOutputIn (g l (length w)) o x x′ w w′) h r in
-    let r2 = subst (λ (l : ℕ). OneOutputIn (g (n * n) l) o x x′ w w′) k r1 in
-    subst (λ (z : Result (List Float)). OneOutputIn z o x x′ w w′) (sym e) r2
+    let r1 = subst (λ (l : ℕ). OneOutputWith false (g l (length w)) o x x′ w w′) h r in
+    let r2 = subst (λ (l : ℕ). OneOutputWith false (g (n * n) l) o x x′ w w′) k r1 in
+    subst (λ (z : Result (List Float)). OneOutputWith false z o x x′ w w′) (sym e) r2
 
 pub chosen-two : (n : ℕ) (g : ℕ → ℕ → ℕ → Result Both) (v : Result Both) (o : Outcome) (x x′ y y′ w w′ : List Float) → length x ≡ n * n → length y ≡ n * n → length w ≡ 8192
-    → v ≡ g (n * n) (n * n) 8192 → TwoOutputsIn (g (length x) (length y) (length w)) o x x′ y y′ w w′ → TwoOutputsIn v o x x′ y y′ w w′
+    → v ≡ g (n * n) (n * n) 8192 → TwoOutputsWith false (g (length x) (length y) (length w)) o x x′ y y′ w w′ → TwoOutputsWith false v o x x′ y y′ w w′
 chosen-two n g v o x x′ y y′ w w′ h i k e r =
-    let r1 = subst (λ (l : ℕ). TwoOutputsIn (g l (length y) (length w)) o x x′ y y′ w w′) h r in
-    let r2 = subst (λ (l : ℕ). TwoOutputsIn (g (n * n) l (length w)) o x x′ y y′ w w′) i r1 in
-    let r3 = subst (λ (l : ℕ). TwoOutputsIn (g (n * n) (n * n) l) o x x′ y y′ w w′) k r2 in
-    subst (λ (z : Result Both). TwoOutputsIn z o x x′ y y′ w w′) (sym e) r3
+    let r1 = subst (λ (l : ℕ). TwoOutputsWith false (g l (length y) (length w)) o x x′ y y′ w w′) h r in
+    let r2 = subst (λ (l : ℕ). TwoOutputsWith false (g (n * n) l (length w)) o x x′ y y′ w w′) i r1 in
+    let r3 = subst (λ (l : ℕ). TwoOutputsWith false (g (n * n) (n * n) l) o x x′ y y′ w w′) k r2 in
+    subst (λ (z : Result Both). TwoOutputsWith false z o x x′ y y′ w w′) (sym e) r3
 
 -- the function of each code
 module _ (f : Format) (n : ℕ) (a : List Float) (p : Float) (code : ℕ) where

@@ -1,10 +1,11 @@
-// One task: its function is called, and its line written.
+// One task: its function is called, and its line written. The workspace is the sheet's own and is not cleared from task to task.
 ghost use mathlib.Core.Path.{_≡_};
+ghost use mathlib.Core.Bool.{false};
 ghost use mathlib.Core.List.{[]};
 ghost use Prim.Native.Nat.{_+_, _*_, _≤_, _<_};
 ghost use lib.ListN.{length};
 ghost use lib.Ieee.{binary64};
-ghost use Rattle.arithmetic.specs.Outputs.{OneOutputIn, TwoOutputsIn};
+ghost use Rattle.arithmetic.specs.Outputs.{OneOutputWith, TwoOutputsWith};
 ghost use Rattle.functions.specs.Calls.{condExpm};
 ghost use Rattle.sheet.specs.Bytes.{byteAt, numbersAt};
 ghost use Rattle.sheet.specs.Text.{resultLine};
@@ -16,38 +17,38 @@ use crate::position::exponent_at;
 use crate::reading::read_number;
 use crate::reading::read_numbers;
 use arithmetic::answer::Answer;
-use functions::condition::cond_expm;
-use functions::expm::expm;
-use functions::frechet::frechet_expm;
-use powers::cosm;
-use powers::powm;
-use powers::sinm;
-use roots::frechet_logm;
-use roots::frechet_sqrtm;
-use roots::logm;
-use roots::sqrtm;
+use functions::condition::cond_expm_with;
+use functions::expm::expm_with;
+use functions::frechet::frechet_expm_with;
+use powers::cosm_with;
+use powers::powm_with;
+use powers::sinm_with;
+use roots::frechet_logm_with;
+use roots::frechet_sqrtm_with;
+use roots::logm_with;
+use roots::sqrtm_with;
 
 // The function with a code from 0 to 5 of the n by n matrix a is written to x. p is the exponent of code 3.
 fn value(code: usize, n: usize, a: &[f64], p: f64, x: &mut [f64], w: &mut [f64]) -> Answer
     requires { ⌜ (length (now x) ≡ n * n) × (length (now w) ≡ 8192) ⌝ }
-    ensures { λ r. ⌜ OneOutputIn (valueFor binary64 n (now (a .entry)) p code) (r .outcome) (now (x .entry)) (now (x .exit)) (now (w .entry)) (now (w .exit)) ⌝ }
+    ensures { λ r. ⌜ OneOutputWith false (valueFor binary64 n (now (a .entry)) p code) (r .outcome) (now (x .entry)) (now (x .exit)) (now (w .entry)) (now (w .exit)) ⌝ }
 {
     if code == 0 {
-        return expm(n, n, a, x, w);
+        return expm_with(n, n, a, x, w, false);
     }
     if code == 1 {
-        return logm(n, n, a, x, w);
+        return logm_with(n, n, a, x, w, false);
     }
     if code == 2 {
-        return sqrtm(n, n, a, x, w);
+        return sqrtm_with(n, n, a, x, w, false);
     }
     if code == 3 {
-        return powm(n, n, a, p, x, w);
+        return powm_with(n, n, a, p, x, w, false);
     }
     if code == 4 {
-        return cosm(n, n, a, x, w);
+        return cosm_with(n, n, a, x, w, false);
     }
-    sinm(n, n, a, x, w)
+    sinm_with(n, n, a, x, w, false)
 }
 
 // The function with a code from 6 to 8 of the n by n matrix a and its derivative in the direction e are written to x and y.
@@ -61,15 +62,15 @@ fn derivative(
     w: &mut [f64],
 ) -> Answer
     requires { ⌜ (length (now x) ≡ n * n) × (length (now y) ≡ n * n) × (length (now w) ≡ 8192) ⌝ }
-    ensures { λ r. ⌜ TwoOutputsIn (derivativeFor binary64 n (now (a .entry)) (now (e .entry)) code) (r .outcome) (now (x .entry)) (now (x .exit)) (now (y .entry)) (now (y .exit)) (now (w .entry)) (now (w .exit)) ⌝ }
+    ensures { λ r. ⌜ TwoOutputsWith false (derivativeFor binary64 n (now (a .entry)) (now (e .entry)) code) (r .outcome) (now (x .entry)) (now (x .exit)) (now (y .entry)) (now (y .exit)) (now (w .entry)) (now (w .exit)) ⌝ }
 {
     if code == 6 {
-        return frechet_expm(n, n, a, n, n, e, x, y, w);
+        return frechet_expm_with(n, n, a, n, n, e, x, y, w, false);
     }
     if code == 7 {
-        return frechet_logm(n, n, a, n, n, e, x, y, w);
+        return frechet_logm_with(n, n, a, n, n, e, x, y, w, false);
     }
-    frechet_sqrtm(n, n, a, n, n, e, x, y, w)
+    frechet_sqrtm_with(n, n, a, n, n, e, x, y, w, false)
 }
 
 // The exponent at p where the code is 3.
@@ -142,7 +143,7 @@ fn condition_line(
     requires { ⌜ TaskRoom (now out) at task n (now a) (now w) ⌝ }
     ensures { λ r. ⌜ Lined (now (out .entry)) at (resultLine binary64 task (ratio (condExpm binary64 n n (now (a .entry)) 8192))) (now (out .exit)) r ⌝ }
 {
-    let answer = cond_expm(n, n, a, w);
+    let answer = cond_expm_with(n, n, a, w, false);
     let outcome = answer.outcome;
     let ratio = [answer.ratio; 1];
     put_answer(out, at, task, outcome, &ratio, &[])

@@ -2,25 +2,43 @@
 
 use compare::sheet::{Sheet, Task};
 
-/// A name, the code of the function, and the exponent of powm: the ten functions, powm by an integer and by a fraction.
-pub const TIMED: [(&str, usize, f64); 11] = [
-    ("expm", 0, 1.0),
-    ("logm", 1, 1.0),
-    ("sqrtm", 2, 1.0),
-    ("powm", 3, 13.0),
-    ("powm_fraction", 3, 2.5),
-    ("cosm", 4, 1.0),
-    ("sinm", 5, 1.0),
-    ("frechet_expm", 6, 1.0),
-    ("frechet_logm", 7, 1.0),
-    ("frechet_sqrtm", 8, 1.0),
-    ("cond_expm", 9, 1.0),
+/// What is timed: the ten functions, powm by an integer and by a fraction.
+pub struct Timed {
+    pub name: &'static str,
+    pub code: usize,
+    /// The exponent of powm.
+    pub exponent: f64,
+    /// The least order that is answered.
+    pub least: usize,
+}
+
+const fn timed(name: &'static str, code: usize, exponent: f64, least: usize) -> Timed {
+    Timed { name, code, exponent, least }
+}
+
+pub const TIMED: [Timed; 11] = [
+    timed("expm", 0, 1.0, 2),
+    timed("logm", 1, 1.0, 2),
+    timed("sqrtm", 2, 1.0, 1),
+    timed("powm", 3, 13.0, 2),
+    timed("powm_fraction", 3, 2.5, 2),
+    timed("cosm", 4, 1.0, 2),
+    timed("sinm", 5, 1.0, 2),
+    timed("frechet_expm", 6, 1.0, 1),
+    timed("frechet_logm", 7, 1.0, 2),
+    timed("frechet_sqrtm", 8, 1.0, 1),
+    timed("cond_expm", 9, 1.0, 1),
 ];
 
-pub const ORDERS: [usize; 3] = [2, 4, 8];
+impl Timed {
+    /// Its sheets, one for each order from the least to 8.
+    pub fn sheets(&self) -> impl Iterator<Item = Sheet> + '_ {
+        (self.least..=8).map(|n| sheet(n, self.code, self.exponent))
+    }
+}
 
 /// A sheet of 16 equal tasks, with one direction and one exponent. The matrix is symmetric and positive definite, so that every function answers.
-pub fn sheet(n: usize, code: usize, exponent: f64) -> Sheet {
+fn sheet(n: usize, code: usize, exponent: f64) -> Sheet {
     let entry = |i: usize, j: usize| if i == j { 1.5 + 0.25 * i as f64 } else { 0.25 / (1 + i + j) as f64 };
     let matrix = (0..n * n).map(|k| entry(k / n, k % n)).collect();
     let direction = (0..n * n).map(|k| 1.0 / (1 + k) as f64).collect();
@@ -29,6 +47,6 @@ pub fn sheet(n: usize, code: usize, exponent: f64) -> Sheet {
 }
 
 /// A sheet with next to no arithmetic: 16 times the power 0, which is the identity.
-pub fn door(n: usize) -> Sheet {
+pub fn overhead(n: usize) -> Sheet {
     sheet(n, 3, 0.0)
 }

@@ -5,7 +5,7 @@ mod source;
 
 use compare::entry::{ABSENT, Entry, ROOM, port};
 use compare::sheet::Sheet;
-use inputs::{ORDERS, TIMED, door, sheet};
+use inputs::{TIMED, overhead};
 use std::hint::black_box;
 use std::process::exit;
 use std::time::{Duration, Instant};
@@ -68,13 +68,14 @@ fn measure(entry: Entry, s: &Sheet, samples: usize, least: Duration) -> Times {
 }
 
 fn report(entry: Entry, samples: usize, least: Duration) {
-    for n in ORDERS {
-        let t = measure(entry, &door(n), samples, least);
-        println!("door {n} port {:.0} ns source {:.0} ns", t.port, t.source);
+    for n in 2..=8 {
+        let t = measure(entry, &overhead(n), samples, least);
+        println!("overhead {n} port {:.0} ns source {:.0} ns", t.port, t.source);
     }
-    for (name, code, exponent) in TIMED {
-        for n in ORDERS {
-            let t = measure(entry, &sheet(n, code, exponent), samples, least);
+    for timed in TIMED {
+        for s in timed.sheets() {
+            let t = measure(entry, &s, samples, least);
+            let (name, n) = (timed.name, s.order);
             println!("time {name} {n} port {:.0} ns source {:.0} ns calls {:.0} ns", t.port, t.source, t.calls);
             println!("ratio {name} {n} {:.2}", t.port / t.source);
             println!("bound {name} {n} {:.2}", t.port / t.calls);
@@ -98,8 +99,7 @@ mod tests {
     /// The source's side does what the entry must do, on every sheet that is timed; and all of them are inside the compared domain.
     #[test]
     fn the_source_writes_the_lines() {
-        let functions = TIMED.iter().flat_map(|(_, code, p)| ORDERS.map(|n| sheet(n, *code, *p)));
-        for s in functions.chain(ORDERS.map(door)) {
+        for s in TIMED.iter().flat_map(|timed| timed.sheets()).chain((2..=8).map(overhead)) {
             let bytes = s.bytes();
             let mut output = vec![0; ROOM];
             let reported = source::sheet(&bytes, &mut output);

@@ -42,25 +42,30 @@ impl<T: Copy + Zeroable + One> Mat<T> {
 }
 
 impl<T> Mat<T> {
+    #[inline]
     pub fn nrows(&self) -> usize {
         self.rows
     }
 
+    #[inline]
     pub fn ncols(&self) -> usize {
         self.columns
     }
 
     #[allow(clippy::should_implement_trait)]
+    #[inline]
     pub fn as_ref(&self) -> MatRef<'_, T> {
         MatRef { rows: self.rows, columns: self.columns, numbers: &self.numbers }
     }
 
     #[allow(clippy::should_implement_trait)]
+    #[inline]
     pub fn as_mut(&mut self) -> MatMut<'_, T> {
         MatMut { numbers: &mut self.numbers }
     }
 
     /// The numbers, row by row.
+    #[inline]
     pub fn numbers(&self) -> &[T] {
         &self.numbers
     }
@@ -73,15 +78,18 @@ impl<'a, T> MatRef<'a, T> {
         MatRef { rows, columns, numbers }
     }
 
+    #[inline]
     pub fn nrows(&self) -> usize {
         self.rows
     }
 
+    #[inline]
     pub fn ncols(&self) -> usize {
         self.columns
     }
 
     /// The numbers, row by row.
+    #[inline]
     pub fn numbers(&self) -> &'a [T] {
         self.numbers
     }
@@ -96,6 +104,7 @@ impl<T> Clone for MatRef<'_, T> {
 impl<T> Copy for MatRef<'_, T> {}
 
 /// The position of an entry; an index outside the matrix ends the program.
+#[inline(always)]
 fn place(rows: usize, columns: usize, (i, j): (usize, usize)) -> usize {
     assert!(i < rows && j < columns, "entry ({i}, {j}) of a {rows} by {columns} matrix");
     i * columns + j
@@ -103,12 +112,14 @@ fn place(rows: usize, columns: usize, (i, j): (usize, usize)) -> usize {
 
 impl<T> Index<(usize, usize)> for Mat<T> {
     type Output = T;
+    #[inline(always)]
     fn index(&self, at: (usize, usize)) -> &T {
         &self.numbers[place(self.rows, self.columns, at)]
     }
 }
 
 impl<T> IndexMut<(usize, usize)> for Mat<T> {
+    #[inline(always)]
     fn index_mut(&mut self, at: (usize, usize)) -> &mut T {
         &mut self.numbers[place(self.rows, self.columns, at)]
     }
@@ -116,6 +127,7 @@ impl<T> IndexMut<(usize, usize)> for Mat<T> {
 
 impl<T> Index<(usize, usize)> for MatRef<'_, T> {
     type Output = T;
+    #[inline(always)]
     fn index(&self, at: (usize, usize)) -> &T {
         &self.numbers[place(self.rows, self.columns, at)]
     }

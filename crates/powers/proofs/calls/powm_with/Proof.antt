@@ -66,7 +66,7 @@ unfolding powm
 returns c =
     let asked = c .before .before .before .before .ask-powm in
     let a = c .before .before .before .before .before .before .before .before .args in
-    one-refused ofPowm (powered (a .rows) (a .columns) (now (a .a)) (a .p) (length (now (a .out)) ∷ []) (length (now (a .w)))) (asked .result) (asked .ensures) (c .refused .result .outcome) (now (a .out)) (now (a .w)) (powerM binary64 (a .rows) (now (a .a)) (a .p)) _ (c .before .before .why .given .1) (c .refused .ensures)
+    one-refused ofPowm (powered (a .rows) (a .columns) (now (a .a)) (a .p) (length (now (a .out)) ∷ []) (length (now (a .w)))) (asked .result) (asked .ensures) (a .clears) (c .refused .result .outcome) (now (a .out)) (now (a .w)) (powerM binary64 (a .rows) (now (a .a)) (a .p)) _ (c .before .before .why .given .1) (c .refused .ensures)
 
 same-length : tie.Need-same-length
 same-length c = search needs

@@ -66,7 +66,7 @@ unfolding sinm
 returns c =
     let asked = c .before .before .before .before .ask-expm in
     let a = c .before .before .before .before .before .before .before .before .args in
-    one-refused ofSinm (unary (a .rows) (a .columns) (now (a .a)) (length (now (a .out)) ∷ []) (length (now (a .w)))) (asked .result) (asked .ensures) (c .refused .result .outcome) (now (a .out)) (now (a .w)) (sinM binary64 (a .rows) (now (a .a))) _ (c .before .before .why .given .1) (c .refused .ensures)
+    one-refused ofSinm (unary (a .rows) (a .columns) (now (a .a)) (length (now (a .out)) ∷ []) (length (now (a .w)))) (asked .result) (asked .ensures) (a .clears) (c .refused .result .outcome) (now (a .out)) (now (a .w)) (sinM binary64 (a .rows) (now (a .a))) _ (c .before .before .why .given .1) (c .refused .ensures)
 
 same-length : tie.Need-same-length
 same-length c = search needs

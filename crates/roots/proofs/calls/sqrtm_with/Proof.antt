@@ -57,7 +57,7 @@ unfolding sqrtm
 returns c =
     let a = c .before .before .before .before .before .before .before .before .args in
     let q = c .before .before .before .before .ask-sqrtm in
-    one-refused ofSqrtm (unary (a .rows) (a .columns) (now (a .a)) (length (now (a .out)) ∷ []) (length (now (a .w)))) (q .result) (q .ensures) (c .refused .result .outcome) (now (a .out)) (now (a .w))
+    one-refused ofSqrtm (unary (a .rows) (a .columns) (now (a .a)) (length (now (a .out)) ∷ []) (length (now (a .w)))) (q .result) (q .ensures) (a .clears) (c .refused .result .outcome) (now (a .out)) (now (a .w))
     (squareRoot binary64 (a .rows) (now (a .a))) _ (c .before .before .why .given .1) (c .refused .ensures)
 
 same-length : tie.Need-same-length

@@ -8,8 +8,8 @@ use borrow.Author.Needs.{needs}
 use Rattle.sheet.proofs.task.value.Statement.{statement}
 use Rattle.sheet.proofs.task.value.Tie as tie
 
-expm-requires : tie.Need-expm-requires
-expm-requires c κs = search needs
+expm-with-requires : tie.Need-expm-with-requires
+expm-with-requires c κs = search needs
 
 same-length : tie.Need-same-length
 same-length c = search needs
@@ -21,10 +21,10 @@ returns : tie.Need-returns
 returns c =
     let b = c .before .before .before .before .before .before .before .before .before .before .before in
     let a = b .args in
-    chosen-one (a .n) (λ (x w : ℕ). expm binary64 (a .n) (a .n) (now (a .a)) x w) _ _ _ _ _ _ (b .pre .0) (b .pre .1) (value-0 binary64 (a .n) (now (a .a)) (a .p) (a .code) (c .before .before .before .before .before .before .before .if1 .taken)) (c .before .before .before .before .expm .ensures)
+    chosen-one (a .n) (λ (x w : ℕ). expm binary64 (a .n) (a .n) (now (a .a)) x w) _ _ _ _ _ _ (b .pre .0) (b .pre .1) (value-0 binary64 (a .n) (now (a .a)) (a .p) (a .code) (c .before .before .before .before .before .before .before .if1 .taken)) (c .before .before .before .before .expm-with .ensures)
 
-logm-requires : tie.Need-logm-requires
-logm-requires c κs = search needs
+logm-with-requires : tie.Need-logm-with-requires
+logm-with-requires c κs = search needs
 
 same-length-3 : tie.Need-same-length-3
 same-length-3 c = search needs
@@ -36,10 +36,10 @@ returns-2 : tie.Need-returns-2
 returns-2 c =
     let b = c .before .before .before .before .before .before .before .before .before .before .before .before in
     let a = b .args in
-    chosen-one (a .n) (λ (x w : ℕ). logm binary64 (a .n) (a .n) (now (a .a)) x w) _ _ _ _ _ _ (b .pre .0) (b .pre .1) (value-1 binary64 (a .n) (now (a .a)) (a .p) (a .code) (c .before .before .before .before .before .before .before .before .if1 .left) (c .before .before .before .before .before .before .before .if2 .taken)) (c .before .before .before .before .logm .ensures)
+    chosen-one (a .n) (λ (x w : ℕ). logm binary64 (a .n) (a .n) (now (a .a)) x w) _ _ _ _ _ _ (b .pre .0) (b .pre .1) (value-1 binary64 (a .n) (now (a .a)) (a .p) (a .code) (c .before .before .before .before .before .before .before .before .if1 .left) (c .before .before .before .before .before .before .before .if2 .taken)) (c .before .before .before .before .logm-with .ensures)
 
-sqrtm-requires : tie.Need-sqrtm-requires
-sqrtm-requires c κs = search needs
+sqrtm-with-requires : tie.Need-sqrtm-with-requires
+sqrtm-with-requires c κs = search needs
 
 same-length-5 : tie.Need-same-length-5
 same-length-5 c = search needs
@@ -51,10 +51,10 @@ returns-3 : tie.Need-returns-3
 returns-3 c =
     let b = c .before .before .before .before .before .before .before .before .before .before .before .before .before in
     let a = b .args in
-    chosen-one (a .n) (λ (x w : ℕ). sqrtm binary64 (a .n) (a .n) (now (a .a)) x w) _ _ _ _ _ _ (b .pre .0) (b .pre .1) (value-2 binary64 (a .n) (now (a .a)) (a .p) (a .code) (c .before .before .before .before .before .before .before .before .before .if1 .left) (c .before .before .before .before .before .before .before .before .if2 .left) (c .before .before .before .before .before .before .before .if3 .taken)) (c .before .before .before .before .sqrtm .ensures)
+    chosen-one (a .n) (λ (x w : ℕ). sqrtm binary64 (a .n) (a .n) (now (a .a)) x w) _ _ _ _ _ _ (b .pre .0) (b .pre .1) (value-2 binary64 (a .n) (now (a .a)) (a .p) (a .code) (c .before .before .before .before .before .before .before .before .before .if1 .left) (c .before .before .before .before .before .before .before .before .if2 .left) (c .before .before .before .before .before .before .before .if3 .taken)) (c .before .before .before .before .sqrtm-with .ensures)
 
-powm-requires : tie.Need-powm-requires
-powm-requires c κs = search needs
+powm-with-requires : tie.Need-powm-with-requires
+powm-with-requires c κs = search needs
 
 same-length-7 : tie.Need-same-length-7
 same-length-7 c = search needs
@@ -66,10 +66,10 @@ returns-4 : tie.Need-returns-4
 returns-4 c =
     let b = c .before .before .before .before .before .before .before .before .before .before .before .before .before .before in
     let a = b .args in
-    chosen-one (a .n) (λ (x w : ℕ). powm binary64 (a .n) (a .n) (now (a .a)) x w (a .p)) _ _ _ _ _ _ (b .pre .0) (b .pre .1) (value-3 binary64 (a .n) (now (a .a)) (a .p) (a .code) (c .before .before .before .before .before .before .before .before .before .before .if1 .left) (c .before .before .before .before .before .before .before .before .before .if2 .left) (c .before .before .before .before .before .before .before .before .if3 .left) (c .before .before .before .before .before .before .before .if4 .taken)) (c .before .before .before .before .powm .ensures)
+    chosen-one (a .n) (λ (x w : ℕ). powm binary64 (a .n) (a .n) (now (a .a)) x w (a .p)) _ _ _ _ _ _ (b .pre .0) (b .pre .1) (value-3 binary64 (a .n) (now (a .a)) (a .p) (a .code) (c .before .before .before .before .before .before .before .before .before .before .if1 .left) (c .before .before .before .before .before .before .before .before .before .if2 .left) (c .before .before .before .before .before .before .before .before .if3 .left) (c .before .before .before .before .before .before .before .if4 .taken)) (c .before .before .before .before .powm-with .ensures)
 
-cosm-requires : tie.Need-cosm-requires
-cosm-requires c κs = search needs
+cosm-with-requires : tie.Need-cosm-with-requires
+cosm-with-requires c κs = search needs
 
 same-length-9 : tie.Need-same-length-9
 same-length-9 c = search needs
@@ -81,10 +81,10 @@ returns-5 : tie.Need-returns-5
 returns-5 c =
     let b = c .before .before .before .before .before .before .before .before .before .before .before .before .before .before .before in
     let a = b .args in
-    chosen-one (a .n) (λ (x w : ℕ). cosm binary64 (a .n) (a .n) (now (a .a)) x w) _ _ _ _ _ _ (b .pre .0) (b .pre .1) (value-4 binary64 (a .n) (now (a .a)) (a .p) (a .code) (c .before .before .before .before .before .before .before .before .before .before .before .if1 .left) (c .before .before .before .before .before .before .before .before .before .before .if2 .left) (c .before .before .before .before .before .before .before .before .before .if3 .left) (c .before .before .before .before .before .before .before .before .if4 .left) (c .before .before .before .before .before .before .before .if5 .taken)) (c .before .before .before .before .cosm .ensures)
+    chosen-one (a .n) (λ (x w : ℕ). cosm binary64 (a .n) (a .n) (now (a .a)) x w) _ _ _ _ _ _ (b .pre .0) (b .pre .1) (value-4 binary64 (a .n) (now (a .a)) (a .p) (a .code) (c .before .before .before .before .before .before .before .before .before .before .before .if1 .left) (c .before .before .before .before .before .before .before .before .before .before .if2 .left) (c .before .before .before .before .before .before .before .before .before .if3 .left) (c .before .before .before .before .before .before .before .before .if4 .left) (c .before .before .before .before .before .before .before .if5 .taken)) (c .before .before .before .before .cosm-with .ensures)
 
-sinm-requires : tie.Need-sinm-requires
-sinm-requires c κs = search needs
+sinm-with-requires : tie.Need-sinm-with-requires
+sinm-with-requires c κs = search needs
 
 same-length-11 : tie.Need-same-length-11
 same-length-11 c = search needs
@@ -96,33 +96,33 @@ returns-6 : tie.Need-returns-6
 returns-6 c =
     let b = c .before .before .before .before .before .before .before .before .before .before .before .before .before .before .before in
     let a = b .args in
-    chosen-one (a .n) (λ (x w : ℕ). sinm binary64 (a .n) (a .n) (now (a .a)) x w) _ _ _ _ _ _ (b .pre .0) (b .pre .1) (value-5 binary64 (a .n) (now (a .a)) (a .p) (a .code) (c .before .before .before .before .before .before .before .before .before .before .before .if1 .left) (c .before .before .before .before .before .before .before .before .before .before .if2 .left) (c .before .before .before .before .before .before .before .before .before .if3 .left) (c .before .before .before .before .before .before .before .before .if4 .left) (c .before .before .before .before .before .before .before .if5 .left)) (c .before .before .before .before .sinm .ensures)
+    chosen-one (a .n) (λ (x w : ℕ). sinm binary64 (a .n) (a .n) (now (a .a)) x w) _ _ _ _ _ _ (b .pre .0) (b .pre .1) (value-5 binary64 (a .n) (now (a .a)) (a .p) (a .code) (c .before .before .before .before .before .before .before .before .before .before .before .if1 .left) (c .before .before .before .before .before .before .before .before .before .before .if2 .left) (c .before .before .before .before .before .before .before .before .before .if3 .left) (c .before .before .before .before .before .before .before .before .if4 .left) (c .before .before .before .before .before .before .before .if5 .left)) (c .before .before .before .before .sinm-with .ensures)
 
 pub value-spec : {M : Type 1} → statement M
 value-spec =
     tie.close
     (tie.spec
-    expm-requires
+    expm-with-requires
     same-length
     same-length-2
     returns
-    logm-requires
+    logm-with-requires
     same-length-3
     same-length-4
     returns-2
-    sqrtm-requires
+    sqrtm-with-requires
     same-length-5
     same-length-6
     returns-3
-    powm-requires
+    powm-with-requires
     same-length-7
     same-length-8
     returns-4
-    cosm-requires
+    cosm-with-requires
     same-length-9
     same-length-10
     returns-5
-    sinm-requires
+    sinm-with-requires
     same-length-11
     same-length-12
     returns-6)
