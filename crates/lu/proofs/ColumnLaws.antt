@@ -1,14 +1,13 @@
 -- Laws of the columns of a right-hand matrix (Solve.antt): one for the start, for a turn and for the end of each loop.
 -- Assumes nothing.
-use Prim.Native.Nat.{ℕ, _+_, _-_, _*_, _≤_, _<_}
+use Prim.Native.Nat.{ℕ, _+_, _*_, _≤_, _<_}
 use mathlib.Core.Path.{_≡_, refl, sym, ap, _∙_}
 use mathlib.Core.Bool.{cond, _&&_}
 use mathlib.Core.List.{List}
 use mathlib.Core.Logic.{⊎-elim}
 use native.Mathlib.Omega.{arith}
 use lib.Dec.{ltb, eqb}
-use lib.ListN.{length, getD, take, drop, set, length-set}
-use borrow.Rule.Slice.PartMut.{putMid}
+use lib.ListN.{length, getD, set, length-set}
 use lib.Seq.{ext-getD}
 use lib.Ieee.{Float, nan, Format}
 use borrow.Author.Tests.{lt-ltb, le-ltb, eq-eqb, ne-eqb}
@@ -16,7 +15,7 @@ use Rattle.arithmetic.specs.Matrix.{at, grid, patch, part, Apart, item, column,
 use Rattle.arithmetic.proofs.Order.{split, same-or-not}
 use Rattle.arithmetic.proofs.MatrixLaws.{index-lt, length-tab, getD-tab, length-grid, at-grid, grid-is, at-set-same, at-set-other}
 use Rattle.arithmetic.proofs.PatchLaws.{patch-more, patch-all}
-use Rattle.arithmetic.proofs.PartLaws.{length-part, lent, returned, put-put, part-put, part-put-apart, apart-sym}
+use Rattle.arithmetic.proofs.PartLaws.{length-part, part-put, part-put-apart, apart-sym}
 use Rattle.lu.specs.Lu.{luAt, luFactors, luPivot, luPivots, columns, LuDoneIn}
 use Rattle.lu.specs.Solve.{withColumn, solved, solvedMatrix, divided}
 use Rattle.lu.proofs.LuLaws.{pivots-in, length-luAt}
@@ -79,23 +78,7 @@ module _ (n m j : ℕ) (x b : List Float) where
       at-grid n m _ r c u v
       ∙ ⊎-elim (λ (s : c ≡ j). rw (eq-eqb c j s, lt-ltb r n u)) (λ (d : c ≡ j → ⊥). rw (ne-eqb c j d)) (same-or-not c j))
 
--- ---- one column in a workspace
-
-pub length-withColumn : (n m j : ℕ) (x b : List Float) → length (withColumn n m j x b) ≡ n * m
-unfolding withColumn
-length-withColumn n m j x b = length-grid n m _
-
--- what the code has: the parts are lent and given back
-pub solve-one-is : (g : Format) (n m f x j : ℕ) (ps : List ℕ) (w c1 c2 b1 : List Float) → f + n * n ≤ length w → x + n * m ≤ length w
-    → c1 ≡ column n m (take (x + n * m - x) (drop x w)) j → c2 ≡ solved g n (take (f + n * n - f) (drop f w)) ps c1 → b1 ≡ withColumn n m j c2 (take (x + n * m - x) (drop x w))
-    → putMid x (x + n * m - x) w b1 ≡ put w x (withColumn n m j (solved g n (part w f (n * n)) ps (column n m (part w x (n * m)) j)) (part w x (n * m)))
-solve-one-is g n m f x j ps w c1 c2 b1 hf hx p q r =
-    let c1' : c1 ≡ column n m (part w x (n * m)) j = p ∙ ap (λ (b : List Float). column n m b j) (lent w x (n * m) hx) in
-    let c2' : c2 ≡ solved g n (part w f (n * n)) ps (column n m (part w x (n * m)) j) = q ∙ (λ i. solved g n (lent w f (n * n) hf i) ps (c1' i)) in
-    let b1' : b1 ≡ withColumn n m j (solved g n (part w f (n * n)) ps (column n m (part w x (n * m)) j)) (part w x (n * m)) = r ∙ (λ i. withColumn n m j (c2' i) (lent w x (n * m) hx i)) in
-    returned w b1 x (n * m) (ap length b1' ∙ length-withColumn n m j _ _) hx ∙ ap (put w x) b1'
-
--- ---- all columns in a workspace
+-- ---- all columns
 
 -- the first j columns of b are replaced by their solutions
 unfoldable pub solvedTo : Format → ℕ → ℕ → List Float → List ℕ → List Float → ℕ → List Float
@@ -140,35 +123,6 @@ module _ (g : Format) (n m : ℕ) (F : List Float) (ps : List ℕ) (b : List Flo
     where
       k : List Float
       k = solvedTo g n m F ps b j
-
--- one turn of the loop over the columns
-pub solve-turn : (g : Format) (n m f x j : ℕ) (ps : List ℕ) (w₀ w w1 : List Float) → j < m → x + n * m ≤ length w₀ → Apart f (n * n) x (n * m)
-    → w ≡ put w₀ x (solvedTo g n m (part w₀ f (n * n)) ps (part w₀ x (n * m)) j)
-    → w1 ≡ put w x (withColumn n m j (solved g n (part w f (n * n)) ps (column n m (part w x (n * m)) j)) (part w x (n * m)))
-    → w1 ≡ put w₀ x (solvedTo g n m (part w₀ f (n * n)) ps (part w₀ x (n * m)) (j + 1))
-solve-turn g n m f x j ps w₀ w w1 h hx apart e e1 =
-    e1
-    ∙ (λ i. put (e i) x (withColumn n m j (solved g n (F' i) ps (column n m (b' i) j)) (b' i)))
-    ∙ put-put w₀ x k (withColumn n m j (solved g n F ps (column n m k j)) k) (size ∙ sym (length-withColumn n m j _ k)) (omega (arith, hx, length-withColumn n m j (solved g n F ps (column n m k j)) k))
-    ∙ ap (put w₀ x) (solved-more g n m F ps b j h)
-  where
-    F : List Float
-    F = part w₀ f (n * n)
-
-    b : List Float
-    b = part w₀ x (n * m)
-
-    k : List Float
-    k = solvedTo g n m F ps b j
-
-    size : length k ≡ n * m
-    size = length-solvedTo g n m F ps b j
-
-    F' : part w f (n * n) ≡ F
-    F' = ap (λ (v : List Float). part v f (n * n)) e ∙ part-put-apart w₀ x (n * m) k f (n * n) apart (omega (arith, size))
-
-    b' : part w x (n * m) ≡ k
-    b' = ap (λ (v : List Float). part v x (n * m)) e ∙ part-put w₀ x k (n * m) size hx
 
 -- ---- a system in a workspace
 

@@ -35,10 +35,18 @@ swap-items n k p x hk hp size =
     (same-or-not i k))
     (same-or-not i p))
 
+pub permuted-more : (n : ℕ) (ps : List ℕ) (x : List Float) (k : ℕ) → swapItems n k (getD ps k 0) (permuted n ps x k) ≡ permuted n ps x (k + 1)
+unfolding permuted
+permuted-more n ps x k = rw add-one
+
 pub permute-turn : (n : ℕ) (ps : List ℕ) (x₀ x x1 : List Float) (k p : ℕ) → k < n → p < n → length x ≡ n → x ≡ permuted n ps x₀ k → p ≡ getD ps k 0
     → x1 ≡ set (set x k (item x p)) p (item x k) → x1 ≡ permuted n ps x₀ (k + 1)
-unfolding permuted
-permute-turn n ps x₀ x x1 k p hk hp size e ep e1 = e1 ∙ swap-items n k p x hk hp size ∙ rw (e, ep, add-one)
+permute-turn n ps x₀ x x1 k p hk hp size e ep e1 = e1 ∙ swap-items n k p x hk hp size ∙ rw (e, ep) (permuted-more n ps x₀ k)
+
+pub length-permuted : (n : ℕ) (ps : List ℕ) (x : List Float) (k : ℕ) → length x ≡ n → length (permuted n ps x k) ≡ n
+unfolding permuted swapItems
+length-permuted n ps x zero h = h
+length-permuted n ps x (suc k) h = length-tab n _
 
 -- ---- forward substitution
 
@@ -67,6 +75,11 @@ length-forwardStep f n F k x = length-tab n _
 pub forward-turn : (f : Format) (n : ℕ) (F x₀ x x1 : List Float) (k : ℕ) → x ≡ forward f n F x₀ k → x1 ≡ forwardStep f n F k x → x1 ≡ forward f n F x₀ (k + 1)
 unfolding forward
 forward-turn f n F x₀ x x1 k e e1 = e1 ∙ rw (e, add-one)
+
+pub length-forward : (f : Format) (n : ℕ) (F x : List Float) (k : ℕ) → length x ≡ n → length (forward f n F x k) ≡ n
+unfolding forward
+length-forward f n F x zero h = h
+length-forward f n F x (suc k) h = length-forwardStep f n F k (forward f n F x k)
 
 -- ---- back substitution
 
@@ -117,6 +130,11 @@ back-turn f n F x₀ x x1 k h hn e e1 =
     let d : n - (k - 1) ≡ suc (n - k) = omega arith in
     let c : n - suc (n - k) ≡ k - 1 = omega arith in
     e1 ∙ rw (d, c, e)
+
+pub length-back : (f : Format) (n : ℕ) (F x : List Float) (d : ℕ) → length x ≡ n → length (back f n F x d) ≡ n
+unfolding back
+length-back f n F x zero h = h
+length-back f n F x (suc d) h = length-backStep f n F (n - suc d) (back f n F x d)
 
 -- ---- the determinant
 

@@ -87,6 +87,11 @@ determinantOf f n F ps = product f n F (signOf (swaps ps n)) n
 unfoldable pub withColumn : ℕ → ℕ → ℕ → List Float → List Float → List Float
 withColumn n m j x b = grid n m (λ r c. cond (eqb c j) (item x r) (at m b r c))
 
+-- the matrix whose columns are g of the columns of b
+unfoldable pub eachColumn : ℕ → ℕ → (List Float → List Float) → List Float → List Float
+unfolding column
+eachColumn n m g b = grid n m (λ r c. item (g (column n m b c)) r)
+
 -- the matrix whose columns are the solutions for the columns of b
 unfoldable pub solvedMatrix : Format → ℕ → ℕ → List Float → List ℕ → List Float → List Float
 unfolding solved column

@@ -16,17 +16,16 @@ enum-told c = search needs
 
 solve-in-requires : tie.Need-solve-in-requires
 solve-in-requires c κs =
-    let told = c .before .before .before in
+    let told = c .before .before in
     let call = told .before .before .before .before .before .before in
-    let s = call .before .before .before .before .before .before in
+    let s = call .before .before .before .before .before in
     let a = s .args in
     let d = call .factor-in in (
       omega (arith, s .pre .1, d .kept .0),
       omega (arith, s .pre .2, d .kept .0),
       s .pre .3,
-      s .pre .4,
-      d .kept .1 .1 .1 .0 ∙ s .pre .5,
-      in-rows binary64 (a .n) (a .f) (a .w .now) (a .pivots .now) (d .last .0) (d .last .1 .1 .1 .0) (d .result) (d .ensures) (told .enum-told .given .1) (s .pre .5),
+      d .kept .1 .1 .1 .0 ∙ s .pre .4,
+      in-rows binary64 (a .n) (a .f) (a .w .now) (a .pivots .now) (d .last .0) (d .last .1 .1 .1 .0) (d .result) (d .ensures) (told .enum-told .given .1) (s .pre .4),
     )
 
 enum-known-r : tie.Need-enum-known-r
@@ -38,34 +37,31 @@ same-length c = search needs
 same-length-2 : tie.Need-same-length-2
 same-length-2 c = search needs
 
-same-length-3 : tie.Need-same-length-3
-same-length-3 c = search needs
-
 returns : tie.Need-returns
 returns c =
-    let solve = c .before .before .before .before in
-    let told = solve .before .before .before .before in
+    let solve = c .before .before in
+    let told = solve .before .before .before in
     let call = told .before .before .before .before .before .before in
-    let s = call .before .before .before .before .before .before in
+    let s = call .before .before .before .before .before in
     let a = s .args in
     let d = call .factor-in in
     let all = told .enum-told .given .1 in (
       sym all ∙ d .ensures .outcome,
       divided-all binary64 (a .n) (a .f) (a .w .now) (a .pivots .now) (d .last .0) (d .last .1 .1 .1 .0) (d .result) (d .ensures) (a .m) (a .x) (solve .solve-in .last .0)
-          all (s .pre .5) (s .pre .1) (s .pre .3) (solve .solve-in .ensures),
+          all (s .pre .4) (s .pre .1) (s .pre .3) (solve .solve-in .ensures),
     )
+
+same-length-3 : tie.Need-same-length-3
+same-length-3 c = search needs
 
 same-length-4 : tie.Need-same-length-4
 same-length-4 c = search needs
-
-same-length-5 : tie.Need-same-length-5
-same-length-5 c = search needs
 
 returns-2 : tie.Need-returns-2
 returns-2 c =
     let told = c .before in
     let call = told .before .before .before .before .before .before in
-    let s = call .before .before .before .before .before .before in
+    let s = call .before .before .before .before .before in
     let a = s .args in
     let d = call .factor-in in
     let e = told .r .given .1 in (
@@ -83,8 +79,7 @@ divide-spec =
     enum-known-r
     same-length
     same-length-2
-    same-length-3
     returns
+    same-length-3
     same-length-4
-    same-length-5
     returns-2)

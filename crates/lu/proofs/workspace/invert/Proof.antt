@@ -29,8 +29,8 @@ mul-divide-2 c = search needs
 
 divide-requires : tie.Need-divide-requires
 divide-requires c κs =
-    let call = c .before .before .before .before .before in
-    let s = call .before .before .before .before .before in
+    let call = c .before .before .before .before in
+    let s = call .before .before .before .before in
     let few = square-le (s .args .n) (s .pre .0 .order) in
     let long = call .identity .kept .0 in (
       omega (arith, s .pre .0 .order),
@@ -38,7 +38,6 @@ divide-requires c κs =
       omega (arith, few, long, s .pre .0 .space, s .pre .1 .1),
       slots-apart (s .args .a) (s .args .b) (s .args .n * s .args .n) (s .args .n * s .args .n) (s .pre .1 .2) few few,
       s .pre .1 .3,
-      s .pre .1 .4,
     )
 
 same-length : tie.Need-same-length
@@ -47,15 +46,12 @@ same-length c = search needs
 same-length-2 : tie.Need-same-length-2
 same-length-2 c = search needs
 
-same-length-3 : tie.Need-same-length-3
-same-length-3 c = search needs
-
 returns : tie.Need-returns
 unfolding slot
 returns c =
-    let call = c .before .before .before .before .before .before in
-    let first = call .before .before .before .before .before .before in
-    let s = first .before .before .before .before .before in
+    let call = c .before .before .before .before in
+    let first = call .before .before .before .before .before in
+    let s = first .before .before .before .before in
     let a = s .args in
     let few = square-le (a .n) (s .pre .0 .order) in
     let e = first .identity .ensures in
@@ -74,5 +70,4 @@ invert-spec =
     divide-requires
     same-length
     same-length-2
-    same-length-3
     returns)
