@@ -13,9 +13,9 @@ use lib.Ieee.{Float, nan, Format, lt, le, mul, sub, div}
 use lib.Seq.{getD-set-other}
 use borrow.Author.Tests.{lt-ltb, le-ltb, le-leb, lt-leb, eq-eqb, ne-eqb}
 use Rattle.arithmetic.specs.Float.{magnitude, one}
-use Rattle.arithmetic.specs.Matrix.{at, grid, withRow, rowTo, rowsTo, patch, part, put}
+use Rattle.arithmetic.specs.Matrix.{at, withRow, rowTo, rowsTo, patch, part, put}
 use Rattle.arithmetic.proofs.Order.{split, same-or-not}
-use Rattle.arithmetic.proofs.MatrixLaws.{getD-tab, index-lt, at-grid, length-grid, grid-is, at-set-same, at-set-other}
+use Rattle.arithmetic.proofs.MatrixLaws.{getD-tab, index-lt, length-grid, at-set-same, at-set-other}
 use Rattle.arithmetic.proofs.PatchLaws.{patch-is, patch-more, patch-in, patch-below, patch-above, length-patch, row-none, row-more, row-skip, row-right, row-above, rows-none, rows-skip, rows-more, rows-all, rows-new, rows-old}
 use Rattle.arithmetic.proofs.PartLaws.{lent, returned, length-part}
 use Rattle.lu.specs.Lu.{pivotAmong, exchange, swapRows, reduced, subtracted, eliminated, tolerance, pivotRefused, pivotRow, luAt, luPivot, luFrom, luOutcome, luPivots, columns, LuDone, LuDoneIn, multiplier}
@@ -35,12 +35,7 @@ pivot-step n a k i p b h e t =
     let row : k + suc (i - suc k) ≡ i = omega arith in
     rw (next, row, ← e, t)
 
--- ---- the swap of two rows, column by column
-
--- the rows k and p have changed places in the first j columns
-unfoldable pub swappedTo : ℕ → ℕ → ℕ → List Float → ℕ → List Float
-unfolding exchange
-swappedTo n k p a j = grid n n (λ r c. cond (ltb c j) (at n a (exchange k p r) c) (at n a r c))
+-- ---- the swap of two rows
 
 -- what holds of k, of p and of i holds of the row that stands in i's place
 pub exchange-in : (P : ℕ → Type 0) (k p i : ℕ) → P k → P p → P i → P (exchange k p i)
@@ -63,69 +58,6 @@ exchange-second k p = ⊎-elim (λ e. rw (eq-eqb p k e, e)) (λ d. rw (ne-eqb p 
 pub exchange-other : (k p r : ℕ) → (r ≡ k → ⊥) → (r ≡ p → ⊥) → exchange k p r ≡ r
 unfolding exchange
 exchange-other k p r d e = rw (ne-eqb r k d, ne-eqb r p e)
-
--- The entries after the two stores of column j, in a matrix l whose columns below j are swapped and whose others are a's.
-swap-column : (n k p j : ℕ) (a l : List Float) → k < n → p < n → j < n → length l ≡ n * n
-    → ((r c : ℕ) → r < n → c < n → j ≤ c → at n l r c ≡ at n a r c)
-    → ((r c : ℕ) → r < n → c < n → c < j → at n l r c ≡ at n a (exchange k p r) c)
-    → (r c : ℕ) → r < n → c < n
-    → at n (set (set l (k * n + j) (at n l p j)) (p * n + j) (at n l k j)) r c ≡ cond (ltb c (j + 1)) (at n a (exchange k p r) c) (at n a r c)
-swap-column n k p j a l hk hp hj size old new r c u v =
-    ⊎-elim (λ w. kept (λ x y. omega arith) (λ x y. omega arith) ∙ new r c u v w ∙ rw (lt-ltb c (j + 1) (omega arith)))
-    (λ w.
-    ⊎-elim (λ (e : c ≡ j).
-    ⊎-elim (λ (s : r ≡ p). rw (e, s, exchange-second k p, lt-ltb j (j + 1) (omega arith)) (at-set-same n l' p j (at n l k j) within' ∙ old k j hk hj (omega arith)))
-    (λ d.
-    ⊎-elim (λ (s : r ≡ k). rw (e, s, exchange-first k p, lt-ltb j (j + 1) (omega arith))
-    (at-set-other n l' p j (at n l k j) k j hj hj (λ x y. d (s ∙ x)) ∙ at-set-same n l k j (at n l p j) within ∙ old p j hp hj (omega arith)))
-    (λ f. kept (λ x y. f x) (λ x y. d x) ∙ old r c u v w ∙ rw (exchange-other k p r f d, lt-ltb c (j + 1) (omega arith)))
-    (same-or-not r k))
-    (same-or-not r p))
-    (λ (d : c ≡ j → ⊥). kept (λ x y. d y) (λ x y. d y) ∙ old r c u v w ∙ rw (le-ltb c (j + 1) (omega arith)))
-    (same-or-not c j))
-    (split c j)
-  where
-    l' : List Float
-    l' = set l (k * n + j) (at n l p j)
-
-    within : k * n + j < length l
-    within = rw size (index-lt hk hj)
-
-    within' : p * n + j < length l'
-    within' = rw (length-set, size) (index-lt hp hj)
-
-    kept : (r ≡ k → c ≡ j → ⊥) → (r ≡ p → c ≡ j → ⊥) → at n (set l' (p * n + j) (at n l k j)) r c ≡ at n l r c
-    kept x y = at-set-other n l' p j (at n l k j) r c hj v y ∙ at-set-other n l k j (at n l p j) r c hj v x
-
-module _ (n k p : ℕ) (a : List Float) where
-  pub length-swappedTo : (j : ℕ) → length (swappedTo n k p a j) ≡ n * n
-  unfolding swappedTo
-  length-swappedTo j = length-grid n n _
-
-  pub swap-none : length a ≡ n * n → a ≡ swappedTo n k p a 0
-  unfolding swappedTo
-  swap-none e = grid-is n n _ a e (λ r c u v. rw (le-ltb c 0 (omega arith)))
-
-  pub swap-all : swappedTo n k p a n ≡ swapRows n k p a
-  unfolding swappedTo swapRows
-  swap-all = grid-is n n _ (swappedTo n k p a n) (length-swappedTo n) (λ r c u v. at-grid n n _ r c u v ∙ rw (lt-ltb c n v))
-
-  -- one column more
-  pub swap-more : (j : ℕ) → k < n → p < n → j < n
-      → set (set (swappedTo n k p a j) (k * n + j) (at n (swappedTo n k p a j) p j)) (p * n + j) (at n (swappedTo n k p a j) k j) ≡ swappedTo n k p a (j + 1)
-  unfolding swappedTo
-  swap-more j hk hp hj =
-      let l = swappedTo n k p a j in
-      grid-is n n _ (set (set l (k * n + j) (at n l p j)) (p * n + j) (at n l k j)) (simp length-set (length-swappedTo j))
-      (swap-column n k p j a l hk hp hj (length-swappedTo j)
-      (λ r c u v w. at-grid n n _ r c u v ∙ rw (le-ltb c j w))
-      (λ r c u v w. at-grid n n _ r c u v ∙ rw (lt-ltb c j w)))
-
-  -- the same, of the lists and the numbers as a turn of the loop has them
-  pub swap-turn : (j : ℕ) (m m1 m2 : List Float) (x y : Float) → k < n → p < n → j < n
-      → m ≡ swappedTo n k p a j → x ≡ at n m k j → y ≡ at n m p j
-      → m1 ≡ set m (k * n + j) y → m2 ≡ set m1 (p * n + j) x → m2 ≡ swappedTo n k p a (j + 1)
-  swap-turn j m m1 m2 x y hk hp hj e ex ey e1 e2 = cc (swap-more j hk hp hj)
 
 -- ---- the elimination of one row, column by column
 

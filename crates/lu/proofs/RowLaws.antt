@@ -3,7 +3,7 @@ use Prim.Native.Nat.{ℕ, suc, _+_, _-_, _*_, _/_, _%_, _≤_, _<_}
 use mathlib.Core.Path.{_≡_, refl, sym, ap, _∙_}
 use mathlib.Core.List.{List, [], _∷_}
 use mathlib.Core.Logic.{_⊎_, inl, inr, ⊎-elim}
-use native.Mathlib.Nat.{div-add-mod'}
+use native.Mathlib.Nat.{div-add-mod', zero-add}
 use native.Mathlib.Omega.{arith}
 use lib.ListN.{length, set}
 use lib.Seq.{ext-getD, getD-set-same, getD-set-other, set-comm}
@@ -11,10 +11,10 @@ use lib.Ieee.{Float, nan}
 use Rattle.arithmetic.specs.Matrix.{tab, at, grid, item, column, part, put, Apart}
 use Rattle.arithmetic.proofs.Order.{split, same-or-not}
 use Rattle.arithmetic.proofs.MatrixLaws.{length-tab, getD-tab, tab-is, length-grid, at-grid, grid-cong, grid-is, item-column, index-lt, row-end, row-lt, column-lt}
-use Rattle.arithmetic.proofs.PartLaws.{length-part, getD-part, at-part, length-put, put-part, put-put, part-put, part-put-apart, apart-sym, put-tab-more, getD-put-before, getD-put-after, getD-put-in, read-apart, read-next}
-use Rattle.lu.specs.Lu.{exchange}
+use Rattle.arithmetic.proofs.PartLaws.{length-part, getD-part, at-part, length-put, put-all, put-part, put-put, part-put, part-put-apart, apart-sym, put-tab-more, getD-put-before, getD-put-after, getD-put-in, read-apart, read-next}
+use Rattle.lu.specs.Lu.{exchange, swapRows}
 use Rattle.lu.specs.Solve.{eachColumn, swapItems}
-use Rattle.lu.proofs.LuLaws.{exchange-first, exchange-second, exchange-other}
+use Rattle.lu.proofs.LuLaws.{exchange-in, exchange-first, exchange-second, exchange-other}
 
 -- ---- two parts change places
 
@@ -241,6 +241,14 @@ swap-rows-in w x n m k p hk hp room =
         (λ (f : r ≡ k → ⊥). rw (exchange-other k p r f d) (row-other w P x n m k sizeP hk r c f s ∙ item-part w x n m r c u s))
         (same-or-not r k))
         (same-or-not r p)
+
+-- the same where the matrix is the whole list
+pub swap-rows-whole : (n k p : ℕ) (a : List Float) → k < n → p < n → length a ≡ n * n → put a 0 (eachColumn n n (swapItems n k p) (part a 0 (n * n))) ≡ swapRows n k p a
+unfolding eachColumn swapItems swapRows at
+swap-rows-whole n k p a hk hp size =
+    let b = part a 0 (n * n) in
+    put-all a (eachColumn n n (swapItems n k p) b) (length-each n n (swapItems n k p) b ∙ sym size)
+    ∙ grid-cong n n _ _ (λ r c u v. getD-tab n _ r nan u ∙ sym (item-part a 0 n n (exchange k p r) c (exchange-in (λ q. q < n) k p r hk hp u) v) ∙ rw zero-add)
 
 -- a row that changes places with itself
 pub swap-self : (n k : ℕ) (l : List Float) → length l ≡ n → swapItems n k k l ≡ l

@@ -6,6 +6,7 @@ ghost use lib.Ieee.{binary64};
 ghost use Rattle.arithmetic.specs.Matrix.{withRow};
 ghost use Rattle.lu.specs.Lu.{pivotRow, swapRows, reduced, subtracted, eliminated, LuDone, tolerance as toleranceOf};
 use crate::LuOutcome;
+use crate::rows::exchange_rows;
 use arithmetic::float::magnitude;
 use arithmetic::float::of_small;
 use arithmetic::matrix::entry;
@@ -35,14 +36,7 @@ pub fn swap_rows(m: &mut [f64], n: usize, k: usize, p: usize)
     requires { ⌜ (k < n) × (p < n) × (length (now m) ≡ n * n) ⌝ }
     ensures { λ _. ⌜ now (m .exit) ≡ swapRows n k p (now (m .entry)) ⌝ }
 {
-    let mut j = 0;
-    while j < n {
-        let x = entry(m, n, n, k, j);
-        let y = entry(m, n, n, p, j);
-        set_entry(m, n, n, k, j, y);
-        set_entry(m, n, n, p, j, x);
-        j += 1;
-    }
+    exchange_rows(m, 0, n, n, k, p);
 }
 
 // Row i below row k, to the right of column k: less x times row k.

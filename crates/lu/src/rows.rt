@@ -57,7 +57,7 @@ fn factor_at(w: &[f64], f: usize, n: usize, i: usize, k: usize) -> f64
 }
 
 // Rows k and p change places.
-fn exchange_rows(w: &mut [f64], x: usize, n: usize, m: usize, k: usize, p: usize)
+pub fn exchange_rows(w: &mut [f64], x: usize, n: usize, m: usize, k: usize, p: usize)
     requires { ⌜ (k < n) × (p < n) × (x + n * m ≤ length (now w)) ⌝ }
     ensures { λ _. ⌜ now (w .exit) ≡ put (now (w .entry)) x (eachColumn n m (swapItems n k p) (part (now (w .entry)) x (n * m))) ⌝ }
 {
