@@ -24,6 +24,7 @@ use arithmetic::root::sqrt;
 use arithmetic::workspace::clear_where;
 use arithmetic::workspace::copy_out;
 use arithmetic::workspace::diagonal;
+use arithmetic::workspace::small_room;
 
 // The ratio of the norms, and the Frobenius norms of the derivative and of the exponential.
 pub struct Condition {
@@ -38,13 +39,6 @@ pub struct ConditionAnswer {
     pub ratio: f64,
     pub derivative: f64,
     pub exponential: f64,
-}
-
-// Room for a matrix of order up to 8.
-fn small_room() -> [f64; 64]
-    ensures { λ r. ⌜ 64 ≡ length r ⌝ }
-{
-    [0.0f64; 64]
 }
 
 // The direction I / root of n is written to out, and to slot 0.

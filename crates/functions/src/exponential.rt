@@ -20,7 +20,6 @@ use arithmetic::workspace::square;
 use arithmetic::workspace::zero;
 use lu::LuOutcome;
 use lu::part::quotient_or_numerator;
-use lu::room::column_room;
 use lu::room::pivot_room;
 use lu::workspace::divide;
 
@@ -72,14 +71,14 @@ pub fn pade_sums(w: &mut [f64], n: usize)
 }
 
 // Slot 5 becomes the quotient of the numerator in slot 2 by the denominator in slot 3, or the numerator where LU refuses the denominator.
-// `pivots` and `c` are room for n pivots and one column.
-fn pade_divide(w: &mut [f64], n: usize, pivots: &mut [usize], c: &mut [f64]) -> LuOutcome
+// `pivots` is room for n pivots.
+fn pade_divide(w: &mut [f64], n: usize, pivots: &mut [usize]) -> LuOutcome
     requires { ⌜ Room n (now w) ⌝ }
-    requires { ⌜ (length (now pivots) ≡ n) × (length (now c) ≡ n) ⌝ }
+    requires { ⌜ length (now pivots) ≡ n ⌝ }
     ensures { λ r. ⌜ Quotient binary64 n (now (w .entry)) (now (w .exit)) r ⌝ }
 {
     copy(w, 2, 5, n);
-    divide(w, 768, 1280, n, n, pivots, c)
+    divide(w, 768, 1280, n, n, pivots)
 }
 
 // Copies the part of the workspace that holds the quotient, or the part that holds the numerator.
@@ -122,24 +121,24 @@ fn take_quotient(w: &mut [f64], n: usize, outcome: LuOutcome)
 }
 
 // The Padé quotient of the matrix in slot 0 takes its place.
-fn pade(w: &mut [f64], n: usize, pivots: &mut [usize], c: &mut [f64])
+fn pade(w: &mut [f64], n: usize, pivots: &mut [usize])
     requires { ⌜ Room n (now w) ⌝ }
-    requires { ⌜ (length (now pivots) ≡ n) × (length (now c) ≡ n) ⌝ }
+    requires { ⌜ length (now pivots) ≡ n ⌝ }
     ensures { λ _. ⌜ Approximated binary64 n (now (w .entry)) (now (w .exit)) ⌝ }
 {
     pade_sums(w, n);
-    let outcome = pade_divide(w, n, pivots, c);
+    let outcome = pade_divide(w, n, pivots);
     take_quotient(w, n, outcome);
 }
 
 // The exponential of the matrix in slot 0 at s halvings takes its place.
-fn exponential_in(w: &mut [f64], n: usize, s: u64, pivots: &mut [usize], c: &mut [f64])
+fn exponential_in(w: &mut [f64], n: usize, s: u64, pivots: &mut [usize])
     requires { ⌜ Room n (now w) ⌝ }
-    requires { ⌜ (s ≤ 1074) × (length (now pivots) ≡ n) × (length (now c) ≡ n) ⌝ }
+    requires { ⌜ (s ≤ 1074) × (length (now pivots) ≡ n) ⌝ }
     ensures { λ _. ⌜ Exponentiated binary64 n s (now (w .entry)) (now (w .exit)) ⌝ }
 {
     scale(w, 0, inverse_power_of_two(s), n);
-    pade(w, n, pivots, c);
+    pade(w, n, pivots);
     square(w, 0, 4, n, s);
 }
 
@@ -150,6 +149,5 @@ pub fn exponential_at(w: &mut [f64], n: usize, s: u64)
     ensures { λ _. ⌜ Exponentiated binary64 n s (now (w .entry)) (now (w .exit)) ⌝ }
 {
     let mut pivots = pivot_room();
-    let mut column = column_room();
-    exponential_in(w, n, s, &mut pivots[..n], &mut column[..n]);
+    exponential_in(w, n, s, &mut pivots[..n]);
 }

@@ -13,7 +13,6 @@ use crate::LuOutcome;
 use crate::question::ask_compute;
 use crate::question::ask_determinant;
 use crate::question::ask_solve;
-use crate::room::column_room;
 use crate::room::pivot_room;
 use crate::substitution::solve_columns;
 use crate::workspace::factor_in;
@@ -27,6 +26,7 @@ use arithmetic::matrix::copy_row;
 use arithmetic::workspace::clear;
 use arithmetic::workspace::copy_in;
 use arithmetic::workspace::copy_out;
+use arithmetic::workspace::small_room;
 
 // The answer of `determinant`; +0 beside a refusal.
 pub struct DeterminantAnswer {
@@ -130,7 +130,7 @@ fn solve_into(f: &[f64], n: usize, pivots: &[usize], b: &[f64], m: usize, out: &
     ensures { λ _. ⌜ now (out .exit) ≡ solvedMatrix binary64 n m (now (f .entry)) (now (pivots .entry)) (now (b .entry)) ⌝ }
 {
     copy_row(out, b);
-    let mut column = column_room();
+    let mut column = small_room();
     solve_columns(f, n, pivots, out, m, &mut column[..n]);
 }
 

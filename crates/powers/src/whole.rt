@@ -18,7 +18,6 @@ use arithmetic::workspace::identity;
 use arithmetic::workspace::mult;
 use arithmetic::workspace::square;
 use lu::LuOutcome;
-use lu::room::column_room;
 use lu::room::pivot_room;
 use lu::workspace::invert;
 
@@ -58,13 +57,13 @@ pub fn bit_power(w: &mut [f64], n: usize, e: u64)
     copy(w, 1, 0, n);
 }
 
-// The inverse of the matrix in slot 0 takes its place. `pivots` and `c` are room for n pivots and one column.
-fn take_inverse(w: &mut [f64], n: usize, pivots: &mut [usize], c: &mut [f64]) -> Outcome
+// The inverse of the matrix in slot 0 takes its place. `pivots` is room for n pivots.
+fn take_inverse(w: &mut [f64], n: usize, pivots: &mut [usize]) -> Outcome
     requires { ⌜ Room n (now w) ⌝ }
-    requires { ⌜ (length (now pivots) ≡ n) × (length (now c) ≡ n) ⌝ }
+    requires { ⌜ length (now pivots) ≡ n ⌝ }
     ensures { λ r. ⌜ Replaced (0 ∷ 1 ∷ []) n (orNotConverged (inverse binary64 n (slot n (now (w .entry)) 0))) r (now (w .entry)) (now (w .exit)) ⌝ }
 {
-    match invert(w, 0, 1, n, pivots, c) {
+    match invert(w, 0, 1, n, pivots) {
         LuOutcome::Singular(_) => Outcome::Refused(Refusal::NotConverged),
         LuOutcome::Factored => {
             copy(w, 1, 0, n);
@@ -79,8 +78,7 @@ fn inverse_in(w: &mut [f64], n: usize) -> Outcome
     ensures { λ r. ⌜ Replaced (0 ∷ 1 ∷ []) n (orNotConverged (inverse binary64 n (slot n (now (w .entry)) 0))) r (now (w .entry)) (now (w .exit)) ⌝ }
 {
     let mut pivots = pivot_room();
-    let mut column = column_room();
-    take_inverse(w, n, &mut pivots[..n], &mut column[..n])
+    take_inverse(w, n, &mut pivots[..n])
 }
 
 // The power e of the inverse of the matrix in slot 0 takes its place.

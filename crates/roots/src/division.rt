@@ -1,4 +1,4 @@
-// Systems in slots of a workspace, with room of their own for pivots and a column.
+// Systems in slots of a workspace, with room of their own for pivots.
 ghost use mathlib.Core.Path.{_≡_};
 ghost use mathlib.Core.Bool.{false};
 ghost use Prim.Native.Nat.{_<_};
@@ -7,7 +7,6 @@ ghost use lib.Ieee.{binary64};
 ghost use Rattle.arithmetic.specs.Workspace.{Room};
 ghost use Rattle.roots.specs.Passes.{Quotient};
 use lu::LuOutcome;
-use lu::room::column_room;
 use lu::room::pivot_room;
 use lu::workspace::divide;
 
@@ -18,6 +17,5 @@ pub fn divide_slot(w: &mut [f64], x: usize, n: usize) -> LuOutcome
     ensures { λ r. ⌜ Quotient binary64 n x r (now (w .entry)) (now (w .exit)) ⌝ }
 {
     let mut rows = pivot_room();
-    let mut column = column_room();
-    divide(w, 512, 256 * x, n, n, &mut rows[..n], &mut column[..n])
+    divide(w, 512, 256 * x, n, n, &mut rows[..n])
 }

@@ -14,9 +14,9 @@ use crate::sylvester::sylvester_into;
 use arithmetic::answer::Outcome;
 use arithmetic::answer::Refusal;
 use arithmetic::workspace::copy_out;
+use arithmetic::workspace::small_room;
 use arithmetic::workspace::transpose;
 use lu::LuOutcome;
-use lu::room::column_room;
 use lu::room::pivot_room;
 use lu::workspace::divide;
 
@@ -36,7 +36,7 @@ fn load_system(w: &mut [f64], n: usize)
     ensures { λ _. ⌜ now (w .exit) ≡ store (now (w .entry)) 8 (sylvesterMatrix binary64 n (slot n (now (w .entry)) 0)) ⌝ }
 {
     let size = n * n;
-    let mut s = column_room();
+    let mut s = small_room();
     fill_system(w, n, &mut s[..size]);
 }
 
@@ -47,16 +47,7 @@ fn solve_system(w: &mut [f64], n: usize) -> LuOutcome
 {
     let size = n * n;
     let mut rows = pivot_room();
-    let mut column = column_room();
-    divide(
-        w,
-        2048,
-        1792,
-        size,
-        1,
-        &mut rows[..size],
-        &mut column[..size],
-    )
+    divide(w, 2048, 1792, size, 1, &mut rows[..size])
 }
 
 // The columns of X, one below the other, are the solution for those of E. Whether LU accepts.

@@ -13,13 +13,7 @@ use crate::parse::parse_sheet;
 use crate::position::exponent_at;
 use crate::reading::read_numbers;
 use crate::task::run_task;
-
-// Room for a matrix of order up to 8.
-fn matrix_room() -> [f64; 64]
-    ensures { λ r. ⌜ 64 ≡ length r ⌝ }
-{
-    [0.0f64; 64]
-}
+use arithmetic::workspace::small_room;
 
 // The lines of t tasks, the first at q. A refused task has its line like any other, and the next is run.
 fn run_tasks(
@@ -87,10 +81,10 @@ fn run_with_room(
     ensures { λ r. ⌜ AllLines (now (out .entry)) (taskLines binary64 (now (s .entry)) n d (tasksAt n d e + 1) t) (now (out .exit)) r ⌝ }
 {
     let count = n * n;
-    let mut a = matrix_room();
-    let mut x = matrix_room();
-    let mut y = matrix_room();
-    let mut z = matrix_room();
+    let mut a = small_room();
+    let mut x = small_room();
+    let mut y = small_room();
+    let mut z = small_room();
     run_in(
         s,
         n,

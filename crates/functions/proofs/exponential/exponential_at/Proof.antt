@@ -9,25 +9,16 @@ use Rattle.functions.proofs.exponential.exponential_at.Tie as tie
 pivot-room-requires : tie.Need-pivot-room-requires
 pivot-room-requires c κs = search needs
 
-column-room-requires : tie.Need-column-room-requires
-column-room-requires c κs = search needs
-
 array-borrow-prefix-pivots : tie.Need-array-borrow-prefix-pivots
 array-borrow-prefix-pivots c = search needs
 
 slice-aggregate-exponential-in : tie.Need-slice-aggregate-exponential-in
-slice-aggregate-exponential-in c = let s = c .before .before .before .before .before in sym (length-take-le _ _ (omega (arith, s .pre .0 .order, c .before .before .before .pivot-room .ensures)))
-
-array-borrow-prefix-column : tie.Need-array-borrow-prefix-column
-array-borrow-prefix-column c = search needs
-
-slice-aggregate-exponential-in-2 : tie.Need-slice-aggregate-exponential-in-2
-slice-aggregate-exponential-in-2 c = let s = c .before .before .before .before .before .before in sym (length-take-le _ _ (omega (arith, s .pre .0 .order, c .before .before .before .column-room .ensures)))
+slice-aggregate-exponential-in c = let s = c .before .before .before .before in sym (length-take-le _ _ (omega (arith, s .pre .0 .order, c .before .before .pivot-room .ensures)))
 
 exponential-in-requires : tie.Need-exponential-in-requires
 exponential-in-requires c κs =
-    let s = c .before .before .before .before .before .before in
-    (s .pre .0, (omega (arith, s .pre .1), length-take-le _ _ (omega (arith, s .pre .0 .order, c .before .before .before .before .pivot-room .ensures)), length-take-le _ _ (omega (arith, s .pre .0 .order, c .before .before .before .column-room .ensures))))
+    let s = c .before .before .before .before in
+    (s .pre .0, (omega (arith, s .pre .1), length-take-le _ _ (omega (arith, s .pre .0 .order, c .before .before .pivot-room .ensures))))
 
 same-length : tie.Need-same-length
 same-length c = search needs
@@ -40,11 +31,8 @@ exponential-at-spec =
     tie.close
     (tie.spec
     pivot-room-requires
-    column-room-requires
     array-borrow-prefix-pivots
     slice-aggregate-exponential-in
-    array-borrow-prefix-column
-    slice-aggregate-exponential-in-2
     exponential-in-requires
     same-length
     returns)

@@ -27,18 +27,15 @@ same-length c = search needs
 same-length-2 : tie.Need-same-length-2
 same-length-2 c = search needs
 
-same-length-3 : tie.Need-same-length-3
-same-length-3 c = search needs
-
 returns : tie.Need-returns
 returns c =
     let square1 = c .before .before .square in
-    let pade1 = c .before .before .before .before .before .before .before .before .before .before .pade in
-    let scale1 = c .before .before .before .before .before .before .before .before .before .before .before .before .before .before .before .before .scale in
-    let s = c .before .before .before .before .before .before .before .before .before .before .before .before .before .before .before .before .before .before .before .before .before .before in
+    let pade1 = c .before .before .before .before .before .before .before .before .pade in
+    let scale1 = c .before .before .before .before .before .before .before .before .before .before .before .before .before .scale in
+    let s = c .before .before .before .before .before .before .before .before .before .before .before .before .before .before .before .before .before .before in
     let a = s .args in
     exponential-steps binary64 (a .n) (now (a .w)) (s .pre .0) (a .s) (scale1 .last .0) (pade1 .last .0) (square1 .last .0)
-    (scale1 .ensures ∙ ap (λ (b : Float). store (now (a .w)) 0 (scaleM binary64 (a .n) b (slot (a .n) (now (a .w)) 0))) (c .before .before .before .before .before .before .before .before .before .before .before .before .before .before .before .before .before .inverse-power-of-two .ensures)) (pade1 .ensures) (square1 .ensures)
+    (scale1 .ensures ∙ ap (λ (b : Float). store (now (a .w)) 0 (scaleM binary64 (a .n) b (slot (a .n) (now (a .w)) 0))) (c .before .before .before .before .before .before .before .before .before .before .before .before .before .before .inverse-power-of-two .ensures)) (pade1 .ensures) (square1 .ensures)
 
 pub exponential-in-spec : {M : Type 1} → statement M
 exponential-in-spec =
@@ -50,5 +47,4 @@ exponential-in-spec =
     square-requires
     same-length
     same-length-2
-    same-length-3
     returns)

@@ -21,15 +21,12 @@ same-length c = search needs
 same-length-2 : tie.Need-same-length-2
 same-length-2 c = search needs
 
-same-length-3 : tie.Need-same-length-3
-same-length-3 c = search needs
-
 returns : tie.Need-returns
 returns c =
     let take1 = c .before .before .take-quotient in
-    let divide1 = c .before .before .before .before .before .before .before .before .before .before .pade-divide in
-    let sums = c .before .before .before .before .before .before .before .before .before .before .before .before .before .before .before .before .pade-sums in
-    let s = c .before .before .before .before .before .before .before .before .before .before .before .before .before .before .before .before .before .before .before .before .before in
+    let divide1 = c .before .before .before .before .before .before .before .before .pade-divide in
+    let sums = c .before .before .before .before .before .before .before .before .before .before .before .before .before .pade-sums in
+    let s = c .before .before .before .before .before .before .before .before .before .before .before .before .before .before .before .before .before in
     pade-steps binary64 (s .args .n) (now (s .args .w)) (s .pre .0) (sums .last .0) (divide1 .last .0) (take1 .last .0) (divide1 .result) (sums .ensures) (divide1 .ensures) (take1 .ensures)
 
 pub pade-spec : {M : Type 1} → statement M
@@ -41,5 +38,4 @@ pade-spec =
     take-quotient-requires
     same-length
     same-length-2
-    same-length-3
     returns)

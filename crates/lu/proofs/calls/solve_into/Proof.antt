@@ -13,8 +13,8 @@ use Rattle.lu.proofs.calls.solve_into.Tie as tie
 copy-row-requires : tie.Need-copy-row-requires
 copy-row-requires c κs = search needs
 
-column-room-requires : tie.Need-column-room-requires
-column-room-requires c κs = search needs
+small-room-requires : tie.Need-small-room-requires
+small-room-requires c κs = search needs
 
 array-borrow-prefix-column : tie.Need-array-borrow-prefix-column
 array-borrow-prefix-column c = search needs
@@ -22,13 +22,13 @@ array-borrow-prefix-column c = search needs
 slice-aggregate-solve-columns : tie.Need-slice-aggregate-solve-columns
 slice-aggregate-solve-columns c =
     let s = c .before .before .before .before .before .before .before .before .before .before .before in
-    sym (length-take-le _ _ (omega (arith, s .pre .0, c .before .before .column-room .ensures)))
+    sym (length-take-le _ _ (omega (arith, s .pre .0, c .before .before .small-room .ensures)))
 
 solve-columns-requires : tie.Need-solve-columns-requires
 solve-columns-requires c κs =
     let copy = c .before .before .before .before .before in
     let s = copy .before .before .before .before .before .before in
-    (s .pre .1, ap length (copy .copy-row .ensures) ∙ s .pre .2, length-take-le _ _ (omega (arith, s .pre .0, c .before .before .column-room .ensures)), s .pre .4, s .pre .5)
+    (s .pre .1, ap length (copy .copy-row .ensures) ∙ s .pre .2, length-take-le _ _ (omega (arith, s .pre .0, c .before .before .small-room .ensures)), s .pre .4, s .pre .5)
 
 same-length : tie.Need-same-length
 same-length c = search needs
@@ -45,7 +45,7 @@ solve-into-spec =
     tie.close
     (tie.spec
     copy-row-requires
-    column-room-requires
+    small-room-requires
     array-borrow-prefix-column
     slice-aggregate-solve-columns
     solve-columns-requires

@@ -9,25 +9,14 @@ use Rattle.powers.proofs.whole.inverse_in.Tie as tie
 pivot-room-requires : tie.Need-pivot-room-requires
 pivot-room-requires c κs = search needs
 
-column-room-requires : tie.Need-column-room-requires
-column-room-requires c κs = search needs
-
 array-borrow-prefix-pivots : tie.Need-array-borrow-prefix-pivots
 array-borrow-prefix-pivots c = search needs
 
 slice-aggregate-take-inverse : tie.Need-slice-aggregate-take-inverse
-slice-aggregate-take-inverse c = sym (length-take-le _ _ (omega (arith, c .before .before .before .before .before .pre .order, c .before .before .before .pivot-room .ensures)))
-
-array-borrow-prefix-column : tie.Need-array-borrow-prefix-column
-array-borrow-prefix-column c = search needs
-
-slice-aggregate-take-inverse-2 : tie.Need-slice-aggregate-take-inverse-2
-slice-aggregate-take-inverse-2 c = sym (length-take-le _ _ (omega (arith, c .before .before .before .before .before .before .pre .order, c .before .before .before .column-room .ensures)))
+slice-aggregate-take-inverse c = sym (length-take-le _ _ (omega (arith, c .before .before .before .before .pre .order, c .before .before .pivot-room .ensures)))
 
 take-inverse-requires : tie.Need-take-inverse-requires
-take-inverse-requires c κs =
-    let s = c .before .before .before .before .before .before in
-    (s .pre, (length-take-le _ _ (omega (arith, s .pre .order, c .before .before .before .before .pivot-room .ensures)), length-take-le _ _ (omega (arith, s .pre .order, c .before .before .before .column-room .ensures))))
+take-inverse-requires c κs = let s = c .before .before .before .before in (s .pre, length-take-le _ _ (omega (arith, s .pre .order, c .before .before .pivot-room .ensures)))
 
 same-length : tie.Need-same-length
 same-length c = search needs
@@ -40,11 +29,8 @@ inverse-in-spec =
     tie.close
     (tie.spec
     pivot-room-requires
-    column-room-requires
     array-borrow-prefix-pivots
     slice-aggregate-take-inverse
-    array-borrow-prefix-column
-    slice-aggregate-take-inverse-2
     take-inverse-requires
     same-length
     returns)

@@ -9,19 +9,19 @@ use Rattle.roots.proofs.root_derivative.load_system.Tie as tie
 mul-size : tie.Need-mul-size
 mul-size c = search needs
 
-column-room-requires : tie.Need-column-room-requires
-column-room-requires c κs = search needs
+small-room-requires : tie.Need-small-room-requires
+small-room-requires c κs = search needs
 
 array-borrow-prefix-s : tie.Need-array-borrow-prefix-s
 array-borrow-prefix-s c = search needs
 
 slice-aggregate-fill-system : tie.Need-slice-aggregate-fill-system
-slice-aggregate-fill-system c = sym (length-take-le _ _ (omega (arith, c .before .before .before .before .pre .1, c .before .before .column-room .ensures)))
+slice-aggregate-fill-system c = sym (length-take-le _ _ (omega (arith, c .before .before .before .before .pre .1, c .before .before .small-room .ensures)))
 
 fill-system-requires : tie.Need-fill-system-requires
 fill-system-requires c κs =
     let s = c .before .before .before .before in
-    (s .pre .0, s .pre .1, s .pre .2, length-take-le _ _ (omega (arith, s .pre .1, c .before .before .column-room .ensures)))
+    (s .pre .0, s .pre .1, s .pre .2, length-take-le _ _ (omega (arith, s .pre .1, c .before .before .small-room .ensures)))
 
 same-length : tie.Need-same-length
 same-length c = search needs
@@ -34,7 +34,7 @@ load-system-spec =
     tie.close
     (tie.spec
     mul-size
-    column-room-requires
+    small-room-requires
     array-borrow-prefix-s
     slice-aggregate-fill-system
     fill-system-requires

@@ -17,24 +17,15 @@ mul-size c = search needs
 pivot-room-requires : tie.Need-pivot-room-requires
 pivot-room-requires c κs = search needs
 
-column-room-requires : tie.Need-column-room-requires
-column-room-requires c κs = search needs
-
 array-borrow-prefix-rows : tie.Need-array-borrow-prefix-rows
 array-borrow-prefix-rows c = search needs
 
 slice-aggregate-divide : tie.Need-slice-aggregate-divide
-slice-aggregate-divide c = sym (length-take-le _ _ (omega (arith, c .before .before .before .before .before .pre .1, c .before .before .before .pivot-room .ensures)))
-
-array-borrow-prefix-column : tie.Need-array-borrow-prefix-column
-array-borrow-prefix-column c = search needs
-
-slice-aggregate-divide-2 : tie.Need-slice-aggregate-divide-2
-slice-aggregate-divide-2 c = sym (length-take-le _ _ (omega (arith, c .before .before .before .before .before .before .pre .1, c .before .before .before .column-room .ensures)))
+slice-aggregate-divide c = sym (length-take-le _ _ (omega (arith, c .before .before .before .before .pre .1, c .before .before .pivot-room .ensures)))
 
 divide-requires : tie.Need-divide-requires
 divide-requires c κs =
-    let s = c .before .before .before .before .before .before in
+    let s = c .before .before .before .before in
     let n = s .args .n in
     let few = fourth-le n (s .pre .1) in
     let one = mul-one (n * n) in (
@@ -42,8 +33,7 @@ divide-requires c κs =
       omega (arith, few, s .pre .2),
       omega (arith, one, s .pre .1, s .pre .2),
       inr (omega (arith, one, s .pre .1)),
-      length-take-le _ _ (omega (arith, s .pre .1, c .before .before .before .column-room .ensures)),
-      length-take-le _ _ (omega (arith, s .pre .1, c .before .before .before .before .pivot-room .ensures)),
+      length-take-le _ _ (omega (arith, s .pre .1, c .before .before .pivot-room .ensures)),
     )
 
 same-length : tie.Need-same-length
@@ -51,8 +41,8 @@ same-length c = search needs
 
 returns : tie.Need-returns
 returns c =
-    let s = c .before .before .before .before .before .before .before .before .before .before .before in
-    let d = c .before .before .before .before .divide in
+    let s = c .before .before .before .before .before .before .before .before in
+    let d = c .before .before .before .divide in
     system-solved binary64 (s .args .n) (s .args .w .now) (s .pre .1) (s .pre .2) (d .last .0) (d .result) (d .ensures .0) (d .ensures .1)
 
 pub solve-system-spec : {M : Type 1} → statement M
@@ -61,11 +51,8 @@ solve-system-spec =
     (tie.spec
     mul-size
     pivot-room-requires
-    column-room-requires
     array-borrow-prefix-rows
     slice-aggregate-divide
-    array-borrow-prefix-column
-    slice-aggregate-divide-2
     divide-requires
     same-length
     returns)

@@ -10,48 +10,48 @@ use Rattle.sheet.proofs.run.run_with_room.Tie as tie
 mul-count : tie.Need-mul-count
 mul-count c = search needs
 
-matrix-room-requires : tie.Need-matrix-room-requires
-matrix-room-requires c κs = search needs
+small-room-requires : tie.Need-small-room-requires
+small-room-requires c κs = search needs
 
-matrix-room-requires-2 : tie.Need-matrix-room-requires-2
-matrix-room-requires-2 c κs = search needs
+small-room-requires-2 : tie.Need-small-room-requires-2
+small-room-requires-2 c κs = search needs
 
-matrix-room-requires-3 : tie.Need-matrix-room-requires-3
-matrix-room-requires-3 c κs = search needs
+small-room-requires-3 : tie.Need-small-room-requires-3
+small-room-requires-3 c κs = search needs
 
-matrix-room-requires-4 : tie.Need-matrix-room-requires-4
-matrix-room-requires-4 c κs = search needs
+small-room-requires-4 : tie.Need-small-room-requires-4
+small-room-requires-4 c κs = search needs
 
 array-borrow-prefix-a : tie.Need-array-borrow-prefix-a
-array-borrow-prefix-a c = let b = c .before .before .before .before .before .before .before .before in omega (arith, square-le8 (b .args .n) (b .pre .0 .most), c .before .before .before .before .matrix-room .ensures)
+array-borrow-prefix-a c = let b = c .before .before .before .before .before .before .before .before in omega (arith, square-le8 (b .args .n) (b .pre .0 .most), c .before .before .before .before .small-room .ensures)
 
 slice-aggregate-run-in : tie.Need-slice-aggregate-run-in
-slice-aggregate-run-in c = let b = c .before .before .before .before .before .before .before .before .before in sym (length-take-le _ _ (omega (arith, square-le8 (b .args .n) (b .pre .0 .most), c .before .before .before .before .before .matrix-room .ensures)))
+slice-aggregate-run-in c = let b = c .before .before .before .before .before .before .before .before .before in sym (length-take-le _ _ (omega (arith, square-le8 (b .args .n) (b .pre .0 .most), c .before .before .before .before .before .small-room .ensures)))
 
 array-borrow-prefix-x : tie.Need-array-borrow-prefix-x
-array-borrow-prefix-x c = let b = c .before .before .before .before .before .before .before .before .before in omega (arith, square-le8 (b .args .n) (b .pre .0 .most), c .before .before .before .before .matrix-room2 .ensures)
+array-borrow-prefix-x c = let b = c .before .before .before .before .before .before .before .before .before in omega (arith, square-le8 (b .args .n) (b .pre .0 .most), c .before .before .before .before .small-room2 .ensures)
 
 slice-aggregate-run-in-2 : tie.Need-slice-aggregate-run-in-2
-slice-aggregate-run-in-2 c = let b = c .before .before .before .before .before .before .before .before .before .before in sym (length-take-le _ _ (omega (arith, square-le8 (b .args .n) (b .pre .0 .most), c .before .before .before .before .before .matrix-room2 .ensures)))
+slice-aggregate-run-in-2 c = let b = c .before .before .before .before .before .before .before .before .before .before in sym (length-take-le _ _ (omega (arith, square-le8 (b .args .n) (b .pre .0 .most), c .before .before .before .before .before .small-room2 .ensures)))
 
 array-borrow-prefix-y : tie.Need-array-borrow-prefix-y
-array-borrow-prefix-y c = let b = c .before .before .before .before .before .before .before .before .before .before in omega (arith, square-le8 (b .args .n) (b .pre .0 .most), c .before .before .before .before .matrix-room3 .ensures)
+array-borrow-prefix-y c = let b = c .before .before .before .before .before .before .before .before .before .before in omega (arith, square-le8 (b .args .n) (b .pre .0 .most), c .before .before .before .before .small-room3 .ensures)
 
 slice-aggregate-run-in-3 : tie.Need-slice-aggregate-run-in-3
-slice-aggregate-run-in-3 c = let b = c .before .before .before .before .before .before .before .before .before .before .before in sym (length-take-le _ _ (omega (arith, square-le8 (b .args .n) (b .pre .0 .most), c .before .before .before .before .before .matrix-room3 .ensures)))
+slice-aggregate-run-in-3 c = let b = c .before .before .before .before .before .before .before .before .before .before .before in sym (length-take-le _ _ (omega (arith, square-le8 (b .args .n) (b .pre .0 .most), c .before .before .before .before .before .small-room3 .ensures)))
 
 array-borrow-prefix-z : tie.Need-array-borrow-prefix-z
-array-borrow-prefix-z c = let b = c .before .before .before .before .before .before .before .before .before .before .before in omega (arith, square-le8 (b .args .n) (b .pre .0 .most), c .before .before .before .before .matrix-room4 .ensures)
+array-borrow-prefix-z c = let b = c .before .before .before .before .before .before .before .before .before .before .before in omega (arith, square-le8 (b .args .n) (b .pre .0 .most), c .before .before .before .before .small-room4 .ensures)
 
 slice-aggregate-run-in-4 : tie.Need-slice-aggregate-run-in-4
-slice-aggregate-run-in-4 c = let b = c .before .before .before .before .before .before .before .before .before .before .before .before in sym (length-take-le _ _ (omega (arith, square-le8 (b .args .n) (b .pre .0 .most), c .before .before .before .before .before .matrix-room4 .ensures)))
+slice-aggregate-run-in-4 c = let b = c .before .before .before .before .before .before .before .before .before .before .before .before in sym (length-take-le _ _ (omega (arith, square-le8 (b .args .n) (b .pre .0 .most), c .before .before .before .before .before .small-room4 .ensures)))
 
 run-in-requires : tie.Need-run-in-requires
 run-in-requires c κs =
     let b = c .before .before .before .before .before .before .before .before .before .before .before .before .before in
     let few = square-le8 (b .args .n) (b .pre .0 .most) in (
       b .pre .0,
-      (b .pre .1, (length-take-le _ _ (omega (arith, few, c .before .before .before .before .before .before .before .before .before .matrix-room .ensures)), length-take-le _ _ (omega (arith, few, c .before .before .before .before .before .before .before .before .matrix-room2 .ensures)), length-take-le _ _ (omega (arith, few, c .before .before .before .before .before .before .before .matrix-room3 .ensures)), length-take-le _ _ (omega (arith, few, c .before .before .before .before .before .before .matrix-room4 .ensures)))),
+      (b .pre .1, (length-take-le _ _ (omega (arith, few, c .before .before .before .before .before .before .before .before .before .small-room .ensures)), length-take-le _ _ (omega (arith, few, c .before .before .before .before .before .before .before .before .small-room2 .ensures)), length-take-le _ _ (omega (arith, few, c .before .before .before .before .before .before .before .small-room3 .ensures)), length-take-le _ _ (omega (arith, few, c .before .before .before .before .before .before .small-room4 .ensures)))),
     )
 
 same-length : tie.Need-same-length
@@ -68,10 +68,10 @@ run-with-room-spec =
     tie.close
     (tie.spec
     mul-count
-    matrix-room-requires
-    matrix-room-requires-2
-    matrix-room-requires-3
-    matrix-room-requires-4
+    small-room-requires
+    small-room-requires-2
+    small-room-requires-3
+    small-room-requires-4
     array-borrow-prefix-a
     slice-aggregate-run-in
     array-borrow-prefix-x
