@@ -59,8 +59,8 @@ combination-more f n c a k =
     ∙ ap (λ (x : Float). add f x (mul f (c k) (at n (power f n a k) i j))) (at-grid n n (λ i j. dot f k c (λ m. at n (power f n a m) i j)) i j p q)
     ∙ sym (dot-more f k c (λ m. at n (power f n a m) i j)))
 
--- the part that `quotient_or_numerator` returns
-take-part : (w : List Float) (o k : ℕ) → o + k ≤ length w → take k (drop o w) ≡ part w o k
+-- a part that begins at o
+pub take-part : (w : List Float) (o k : ℕ) → o + k ≤ length w → take k (drop o w) ≡ part w o k
 take-part w o k h = let e : k ≡ o + k - o = omega arith in ap (λ (m : ℕ). take m (drop o w)) e ∙ lent w o k h
 
 take-rest : (w : List Float) (o : ℕ) → take (length w - o) (drop o w) ≡ drop o w
@@ -69,6 +69,7 @@ take-rest w o = take-all (length w - o) (drop o w) (omega (arith, length-drop o 
 pub rest-length : (w : List Float) (o : ℕ) → length (take (length w - o) (drop o w)) ≡ length w - o
 rest-length w o = ap length (take-rest w o) ∙ length-drop o w
 
+-- the part that `quotient_or_numerator` returns
 pub quotient-part : {count : ℕ} (n : ℕ) (w : List Float) (o : LuOutcome) → count ≡ n * n → Room n w
     → take count (standIn o (take (length w - 1280) (drop 1280 w)) (take (length w - 512) (drop 512 w))) ≡ standIn o (slot n w 5) (slot n w 2)
 unfolding slot

@@ -1,17 +1,15 @@
 -- What a call of frechet_expm leaves. Assumes nothing.
 use Prim.Native.Nat.{ℕ, _+_, _*_, _<_, _≤_}
-use native.Mathlib.Nat.{add-mul, zero-add}
+use native.Mathlib.Nat.{add-mul}
 use mathlib.Core.Path.{_≡_, refl, sym, ap, _∙_}
 use mathlib.Core.Bool.{Bool, true}
 use mathlib.Core.List.{List}
 use native.Mathlib.Omega.{arith}
 use lib.Dec.{ltb}
-use lib.ListN.{length, take}
-use lib.Seq.{length-take-le, getD-take}
-use lib.Ieee.{Float, Format, nan}
-use Rattle.arithmetic.specs.Matrix.{item, part}
+use lib.ListN.{length}
+use lib.Ieee.{Float, Format}
 use Rattle.arithmetic.specs.Workspace.{slot, store, cleared, Only, Room}
-use Rattle.arithmetic.specs.Result.{Result, refused, done, outcome, exit, workspace}
+use Rattle.arithmetic.specs.Result.{Result, refused, done, outcome, exit}
 use Rattle.arithmetic.specs.Questions.{Call, Profile, asked, answer}
 use Rattle.arithmetic.specs.Answers.{reported, found}
 use Rattle.arithmetic.specs.Outputs.{Both, TwoOutputsWith, Replaced}
@@ -20,7 +18,7 @@ use Rattle.arithmetic.specs.declared.answer.Outcome.the-variants.{Done, Refused
 use Rattle.arithmetic.specs.declared.answer.Question.{Question}
 use Rattle.arithmetic.specs.declared.answer.Question.the-variants.{Passed}
 use Rattle.arithmetic.specs.declared.answer.Refusal.{Refusal}
-use Rattle.arithmetic.proofs.MatrixLaws.{square-le, length-grid, row-end, tab-is}
+use Rattle.arithmetic.proofs.MatrixLaws.{square-le, length-grid, row-end}
 use Rattle.arithmetic.proofs.Slots.{slot-store, only-store, only-trans, only-more, cleared-only}
 use Rattle.arithmetic.proofs.States.{among, member-among}
 use Rattle.arithmetic.proofs.AnswerLaws.{answer-passed}
@@ -56,14 +54,10 @@ late-frechetExpM f n a e = go (expM f (n + n) (block n a e)) (late-expM f (n + n
     go (refused k i j) l = l
     go (done s x) l = tt
 
--- ---- the rows of the block are within it, and its quarters within the workspace
+-- ---- the rows of the block are within it, and it within its slot
 
 pub block-rows : (n i : ℕ) → n ≤ 8 → i < n → (i * (n + n) + (n + n) ≤ n * (n + n)) × (n * (n + n) + n * (n + n) ≤ 256)
 block-rows n i small h = (row-end i n (n + n) h, omega (arith, add-mul n n (n + n), square-le (n + n) (omega arith)))
-
-pub slot-front : (n : ℕ) (w : List Float) → n * n ≤ length w → take (n * n) w ≡ slot n w 0
-unfolding slot part
-slot-front n w h = tab-is nan (n * n) (λ i. item w (256 * 0 + i)) (take (n * n) w) (length-take-le (n * n) w h) (λ i l. getD-take (n * n) w i nan l ∙ ap (item w) (sym (zero-add i)))
 
 -- ---- the ends of write_quarters
 

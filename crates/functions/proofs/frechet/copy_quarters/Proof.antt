@@ -1,12 +1,13 @@
 -- `copy_quarters` meets its contract. Assumes nothing.
-use Prim.Native.Nat.{_+_}
+use Prim.Native.Nat.{_+_, _*_}
 use mathlib.Core.Path.{sym, ap, _∙_}
 use native.Mathlib.Omega.{arith}
 use denote.Ref.{now}
 use lib.Seq.{length-take-le}
+use Rattle.arithmetic.specs.Workspace.{slot}
 use Rattle.arithmetic.proofs.MatrixLaws.{square-le}
 use Rattle.functions.specs.Exponential.{quarter}
-use Rattle.functions.proofs.FrechetLaws.{slot-front}
+use Rattle.functions.proofs.ExponentialLaws.{take-part}
 use borrow.Author.Needs.{needs}
 use Rattle.functions.proofs.frechet.copy_quarters.Statement.{statement}
 use Rattle.functions.proofs.frechet.copy_quarters.Tie as tie
@@ -40,10 +41,11 @@ same-length-2 : tie.Need-same-length-2
 same-length-2 c = search needs
 
 returns : tie.Need-returns
+unfolding slot
 returns c =
     let s = c .before .before .before .before .before .before .before .before .before .before .before .before in
     let n = s .args .n in
-    let front = slot-front (n + n) (now (s .args .w)) (omega (arith, square-le (n + n) (omega (arith, s .pre .0)), s .pre .1)) in
+    let front = take-part (now (s .args .w)) 0 ((n + n) * (n + n)) (omega (arith, square-le (n + n) (omega (arith, s .pre .0)), s .pre .1)) in
     (c .before .before .before .before .before .before .copy-quarter .ensures ∙ ap (quarter n 0) front, c .before .before .copy-quarter2 .ensures ∙ ap (quarter n n) front)
 
 pub copy-quarters-spec : {M : Type 1} → statement M
