@@ -22,17 +22,12 @@ use Rattle.arithmetic.proofs.ProductLaws.{length-zeroM, at-tab, length-accumula
 use Rattle.arithmetic.proofs.Slots.{only-trans, only-more, length-slot, slot-only, only-refl}
 use Rattle.arithmetic.proofs.States.{held, Held, listed, State, start, step-identity, step-zero, step-accumulate, step-call, state-listed, holds-as, held-at, member-among, step-scale, step-copy-in, step-copy, step-mult, Holds}
 use Rattle.arithmetic.specs.Norm.{norm1}
-use Rattle.arithmetic.specs.Result.{Result, done, outcome, exit}
-use Rattle.arithmetic.specs.Answers.{numbered}
-use Rattle.arithmetic.specs.Outputs.{Replaced}
-use Rattle.arithmetic.specs.declared.answer.Outcome.the-variants.{Done, Refused}
-use Rattle.arithmetic.specs.declared.answer.Refusal.{Refusal}
 use Rattle.arithmetic.proofs.OutputLaws.{Late}
 use Rattle.lu.specs.Lu.{luOutcome}
 use Rattle.lu.specs.Solve.{standIn, divided, quotient}
 use Rattle.lu.proofs.DivisionLaws.{divided-slot, divided-only}
-use Rattle.functions.specs.Powers.{halvingsReport, expM}
-use Rattle.functions.proofs.HalvingLaws.{halvings-set, halvings-none, halvings-outcome, halvings-late}
+use Rattle.functions.specs.Powers.{expM}
+use Rattle.functions.proofs.HalvingLaws.{halvings-late}
 use Rattle.functions.specs.Exponential.{coefficient, nextCoefficient, nextPower, power, combinationTo, flipped, flip, Raised, Summed, Quotient, Approximated, Exponentiated, numerator, denominator, combination, exponential, pade, scaled}
 
 -- ---- one term more
@@ -199,25 +194,6 @@ module _ (f : Format) (n : ℕ) (w₀ : List Float) (r : Room n w₀) where
       record {
         result = Q .power ∙ ap (squared f n s) (P .result ∙ ap (pade f n) (held-at 0 n s1 refl));
         only = only-trans (s1 .only) (only-trans (P .only) (only-more (member-among all (0 ∷ 4 ∷ []) refl) (Q .only)));
-      }
-
-  -- ---- the exponential at the halvings of its norm
-
-  pub expm-done : (s : ℕ) (w1 : List Float) → halvingsReport (norm1 f n (slot n w₀ 0)) ≡ done s tt → Exponentiated f n s w₀ w1
-      → Replaced (0 ∷ 1 ∷ 2 ∷ 3 ∷ 4 ∷ 5 ∷ []) n (expM f n (slot n w₀ 0)) (Done s) w₀ w1
-  unfolding expM outcome exit
-  expm-done s w1 e E =
-      let a = slot n w₀ 0 in
-      rw (halvings-set (norm1 f n a) (λ s. exponential f n s a) s e) (record { outcome = refl; result = E .result; only = E .only })
-
-  pub expm-none : (y : Refusal) → halvingsReport (norm1 f n (slot n w₀ 0)) ≡ numbered y → Replaced (0 ∷ 1 ∷ 2 ∷ 3 ∷ 4 ∷ 5 ∷ []) n (expM f n (slot n w₀ 0)) (Refused y) w₀ w₀
-  unfolding expM exit
-  expm-none y e =
-      let a = slot n w₀ 0 in
-      record {
-        outcome = sym e ∙ sym (halvings-outcome (norm1 f n a) (λ s. exponential f n s a));
-        result = sym (ap (λ (z : Result (List Float)). exit (λ v. v) z a) (halvings-none (norm1 f n a) (λ s. exponential f n s a) y e));
-        only = only-refl all w₀;
       }
 
 pub late-expM : (f : Format) (n : ℕ) (a : List Float) → Late (expM f n a)

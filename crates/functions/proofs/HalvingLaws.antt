@@ -3,18 +3,25 @@ use Prim.Native.Nat.{ℕ, _≤_}
 use native.Mathlib.Omega.{arith}
 use mathlib.Core.Path.{_≡_, refl, sym, ap, _∙_, subst}
 use mathlib.Core.Bool.{Bool, true, false, cond}
+use mathlib.Core.List.{List}
 use lib.Dec.{T, lit≤}
 use lib.Ieee.{Float, binary64, fits}
 use lib.Ieee.Scale.{finite}
 use Rattle.arithmetic.specs.Float.{halvings}
-use Rattle.arithmetic.specs.Result.{Result, refused, done, _>>=_, outcome, passes, ask}
-use Rattle.arithmetic.specs.Answers.{numbered, found}
+use Rattle.arithmetic.specs.Workspace.{slot, member, Only}
+use Rattle.arithmetic.specs.Result.{Result, refused, done, _>>=_, outcome, exit, passes, ask}
+use Rattle.arithmetic.specs.Answers.{numbered, reported, found}
+use Rattle.arithmetic.specs.Outputs.{Replaced}
+use Rattle.arithmetic.specs.declared.answer.Outcome.{Outcome}
+use Rattle.arithmetic.specs.declared.answer.Outcome.the-variants.{Done, Refused}
 use Rattle.arithmetic.specs.declared.answer.Question.{Question}
 use Rattle.arithmetic.specs.declared.answer.Question.the-variants.{Passed, No}
 use Rattle.arithmetic.specs.declared.answer.Refusal.{Refusal}
 use Rattle.arithmetic.proofs.Least.{halvings-le}
 use Rattle.arithmetic.proofs.QuestionLaws.{as-refused}
 use Rattle.arithmetic.proofs.OutputLaws.{Late}
+use Rattle.arithmetic.proofs.BothLaws.{call-refused}
+use Rattle.arithmetic.proofs.Slots.{only-refl}
 use Rattle.functions.specs.Powers.{halvingsFor, halvingsReport}
 
 -- the halvings that are reported, and whether any are
@@ -84,15 +91,6 @@ module _ {A : Type 0} (x : Float) (g : ℕ → A) where
       go true p = ap (λ (t : ℕ). done t (g t)) (ap reportedHalvings p)
       go false p = absurd (subst IsDone (sym p) tt)
 
-  -- and a refusal that is reported is 12
-  pub halvings-none : (y : Refusal) → halvingsReport x ≡ numbered y → (halvingsFor x >>= λ s. done s (g s)) ≡ refused 12 0 0
-  unfolding halvingsReport halvingsFor _>>=_
-  halvings-none y e = go (finite x) e
-    where
-      go : (b : Bool) → (cond b (done 0 (halvings x)) (refused 12 0 0) >>= λ s. done s tt) ≡ numbered y → (cond b (done 0 (halvings x)) (refused 12 0 0) >>= λ s. done s (g s)) ≡ refused 12 0 0
-      go true p = absurd (not-done y (halvings x) (sym p))
-      go false p = refl
-
   pub halvings-late : Late (halvingsFor x >>= λ s. done s (g s))
   unfolding halvingsFor _>>=_
   halvings-late = go (finite x)
@@ -100,3 +98,16 @@ module _ {A : Type 0} (x : Float) (g : ℕ → A) where
       go : (b : Bool) → Late (cond b (done 0 (halvings x)) (refused 12 0 0) >>= λ s. done s (g s))
       go true = tt
       go false = lit≤ tt
+
+-- ---- a matrix in slot 0 that g replaces at the halvings of the norm x
+
+module _ (ss : List ℕ) (n : ℕ) (g : ℕ → List Float) (x : Float) (o : Outcome) (H : reported o ≡ halvingsReport x) (w : List Float) where
+  pub halved-none : (y : Refusal) → o ≡ Refused y → Replaced ss n (halvingsFor x >>= λ s. done s (g s)) (Refused y) w w
+  unfolding outcome exit
+  halved-none y e =
+      let (k, i, j, ex, en) = call-refused (halvingsFor x >>= λ s. done s (g s)) o y (H ∙ sym (halvings-outcome x g)) e in
+      rw ex (record { outcome = en; result = refl; only = only-refl (member ss) w })
+
+  pub halved-done : (s : ℕ) (w′ : List Float) → o ≡ Done s → slot n w′ 0 ≡ g s → Only (member ss) w w′ → Replaced ss n (halvingsFor x >>= λ s. done s (g s)) (Done s) w w′
+  unfolding outcome exit
+  halved-done s w′ e r k = rw (halvings-set x g s (sym H ∙ ap reported e)) (record { outcome = refl; result = r; only = k })

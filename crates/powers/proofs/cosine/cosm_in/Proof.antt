@@ -9,7 +9,7 @@ use Rattle.arithmetic.specs.Workspace.{slot}
 use Rattle.arithmetic.proofs.ProductLaws.{one-bits}
 use Rattle.functions.specs.Powers.{halvingsReport}
 use Rattle.functions.specs.Trigonometric.{cosineAt, trigonometricHalvings, cosM}
-use Rattle.powers.proofs.ReplacedLaws.{halved-none, halved-done}
+use Rattle.functions.proofs.HalvingLaws.{halved-none, halved-done}
 use native.Mathlib.Omega.{arith}
 use borrow.Author.Needs.{needs}
 use Rattle.powers.proofs.cosine.cosm_in.Statement.{statement}
