@@ -2,15 +2,17 @@
 use mathlib.Core.Path.{_≡_, refl, sym, ap, _∙_}
 use mathlib.Core.List.{List, [], _∷_}
 use mathlib.Core.Bool.{Bool, true, false, cond}
-use mathlib.Core.Option.{Option, none, some}
 use Prim.Native.Nat.{ℕ, _^_}
-use native.Mathlib.Omega.{arith}
 use lib.IntN.{ℤ, pos, negsuc}
 use lib.Count.{trailingZeros}
 use lib.Ieee.{Float, Format, binary64, ofBits, ofFields, odd, round, units, size}
 use Rattle.arithmetic.specs.Float.{nearInteger, integerOf}
 use Rattle.arithmetic.specs.Product.{timesM}
-use Rattle.arithmetic.specs.Workspace.{Room, slot, store, member, Only}
+use Rattle.arithmetic.specs.Workspace.{Room, slot, store, member}
+use Rattle.arithmetic.specs.Result.{Result}
+use Rattle.arithmetic.specs.Outputs.{Replaced}
+use Rattle.arithmetic.specs.declared.answer.Outcome.{Outcome}
+use Rattle.arithmetic.proofs.Slots.{only-trans}
 use Rattle.arithmetic.proofs.States.{start, held-at, step-times, step-copy}
 use Rattle.arithmetic.proofs.OutputLaws.{Late, late-bind}
 use Rattle.lu.specs.Solve.{inverse}
@@ -18,7 +20,7 @@ use Rattle.functions.specs.Roots.{orNotConverged}
 use Rattle.functions.specs.Logarithm.{logarithm}
 use Rattle.functions.specs.Powers.{expM, wholePower, fractionalPower, isWhole, powerM}
 use Rattle.functions.proofs.ExponentialLaws.{late-expM}
-use Rattle.roots.proofs.CallLaws.{late-logarithm}
+use Rattle.roots.proofs.CallLaws.{late-solution, late-logarithm}
 
 -- ---- the exponent
 
@@ -41,29 +43,21 @@ module _ (f : Format) (n : ℕ) (a : List Float) (p : Float) where
   unfolding powerM
   power-fractional h = ap (λ (b : Bool). cond b (wholePower f n a (integerOf binary64 p)) (fractionalPower f n a p)) (sym h)
 
--- ---- p times the matrix in slot 0 takes its place
+-- ---- p times the matrix in slot 0 takes its place, and what g gives for it replaces that
 
-module _ (f : Format) (n : ℕ) (p : Float) (w₀ : List Float) (r : Room n w₀) (w1 w2 : List Float) (e1 : w1 ≡ store w₀ 1 (timesM f n p (slot n w₀ 0))) (e2 : w2 ≡ store w1 0 (slot n w1 1)) where
-  pub multiple : slot n w2 0 ≡ timesM f n p (slot n w₀ 0)
-  multiple =
-      let s1 = step-times n (r .order) f p 0 1 (start (member (0 ∷ 1 ∷ [])) n r) e1 refl refl refl in
-      held-at 0 n (step-copy n (r .order) 1 0 s1 e2 refl refl refl) refl
-
-  pub multiple-only : Only (member (0 ∷ 1 ∷ 2 ∷ 3 ∷ 4 ∷ 5 ∷ [])) w₀ w2
-  multiple-only =
-      let s1 = step-times n (r .order) f p 0 1 (start (member (0 ∷ 1 ∷ 2 ∷ 3 ∷ 4 ∷ 5 ∷ [])) n r) e1 refl refl refl in
-      step-copy n (r .order) 1 0 s1 e2 refl refl refl .only
+pub multiple-replaced : (f : Format) (n : ℕ) (p : Float) (g : List Float → Result (List Float)) (o : Outcome) (w₀ w1 w2 w3 : List Float) → Room n w₀ → w1 ≡ store w₀ 1 (timesM f n p (slot n w₀ 0)) → w2 ≡ store w1 0 (slot n w1 1)
+    → Replaced (0 ∷ 1 ∷ 2 ∷ 3 ∷ 4 ∷ 5 ∷ []) n (g (slot n w2 0)) o w2 w3 → Replaced (0 ∷ 1 ∷ 2 ∷ 3 ∷ 4 ∷ 5 ∷ []) n (g (timesM f n p (slot n w₀ 0))) o w₀ w3
+multiple-replaced f n p g o w₀ w1 w2 w3 r e1 e2 R =
+    let s1 = step-times n (r .order) f p 0 1 (start (member (0 ∷ 1 ∷ 2 ∷ 3 ∷ 4 ∷ 5 ∷ [])) n r) e1 refl refl refl in
+    let s2 = step-copy n (r .order) 1 0 s1 e2 refl refl refl in
+    rw (← held-at 0 n s2 refl) (record { outcome = R .outcome; result = R .result; only = only-trans (s2 .only) (R .only) })
 
 -- ---- refusals
 
 late-whole : (f : Format) (n : ℕ) (a : List Float) (e : ℤ) → Late (wholePower f n a e)
 unfolding wholePower
 late-whole f n a (pos e) = tt
-late-whole f n a (negsuc e) = late-bind (orNotConverged (inverse f n a)) _ (go (inverse f n a)) (λ b. tt)
-  where
-    go : (o : Option (List Float)) → Late (orNotConverged o)
-    go none = omega arith
-    go (some x) = tt
+late-whole f n a (negsuc e) = late-bind (orNotConverged (inverse f n a)) _ (late-solution (inverse f n a)) (λ b. tt)
 
 late-fractional : (f : Format) (n : ℕ) (a : List Float) (p : Float) → Late (fractionalPower f n a p)
 unfolding fractionalPower

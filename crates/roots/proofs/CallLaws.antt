@@ -24,7 +24,7 @@ late-ended (stopped x) = tt
 late-ended failed = omega arith
 
 -- the solution of a system
-late-solution : {A : Type 0} (x : Option A) → Late (orNotConverged x)
+pub late-solution : {A : Type 0} (x : Option A) → Late (orNotConverged x)
 late-solution none = omega arith
 late-solution (some x) = tt
 

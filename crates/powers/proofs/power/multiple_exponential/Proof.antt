@@ -1,15 +1,14 @@
 -- `multiple_exponential` meets its contract. Assumes nothing.
-use mathlib.Core.Path.{refl, subst}
-use mathlib.Core.List.{List, [], _∷_}
-use lib.Ieee.{Float, binary64}
+use mathlib.Core.Path.{refl}
+use mathlib.Core.List.{[], _∷_}
+use lib.Ieee.{binary64}
 use Rattle.arithmetic.specs.Product.{timesM}
 use Rattle.arithmetic.specs.Workspace.{slot, member}
 use Rattle.arithmetic.specs.Result.{done}
-use Rattle.arithmetic.specs.Outputs.{Replaced}
 use Rattle.arithmetic.proofs.Slots.{only-refl}
 use Rattle.functions.specs.Powers.{expM}
-use Rattle.powers.proofs.ReplacedLaws.{replaced-by, replaced-more, then-refused, then-replaced}
-use Rattle.powers.proofs.PowerLaws.{multiple, multiple-only}
+use Rattle.powers.proofs.ReplacedLaws.{replaced-by, then-refused, then-replaced}
+use Rattle.powers.proofs.PowerLaws.{multiple-replaced}
 use borrow.Author.Needs.{needs}
 use Rattle.powers.proofs.power.multiple_exponential.Statement.{statement}
 use Rattle.powers.proofs.power.multiple_exponential.Tie as tie
@@ -39,11 +38,8 @@ returns c =
     let scaled = copied .before .before .before .before in
     let s = scaled .before .before .before in
     let a = s .args in
-    let w2 = copied .copy .last .0 in
     let w3 = call .expm-in .last .0 in
-    let e = multiple binary64 (a .n) (a .p) (a .w .now) (s .pre) (scaled .times .last .0) w2 (scaled .times .ensures) (copied .copy .ensures) in
-    let k = multiple-only binary64 (a .n) (a .p) (a .w .now) (s .pre) (scaled .times .last .0) w2 (scaled .times .ensures) (copied .copy .ensures) in
-    let R = replaced-more (0 ∷ 1 ∷ 2 ∷ 3 ∷ 4 ∷ 5 ∷ []) (0 ∷ 1 ∷ 2 ∷ 3 ∷ 4 ∷ 5 ∷ []) (a .n) _ (call .expm-in .result) (a .w .now) w2 w3 k (subst (λ (x : List Float). Replaced (0 ∷ 1 ∷ 2 ∷ 3 ∷ 4 ∷ 5 ∷ []) (a .n) (expM binary64 (a .n) x) (call .expm-in .result) w2 w3) e (call .expm-in .ensures)) refl in
+    let R = multiple-replaced binary64 (a .n) (a .p) (expM binary64 (a .n)) (call .expm-in .result) (a .w .now) (scaled .times .last .0) (copied .copy .last .0) w3 (s .pre) (scaled .times .ensures) (copied .copy .ensures) (call .expm-in .ensures) in
     then-refused (0 ∷ 1 ∷ 2 ∷ 3 ∷ 4 ∷ 5 ∷ []) (a .n) (expM binary64 (a .n) (timesM binary64 (a .n) (a .p) (slot (a .n) (a .w .now) 0))) (λ x. done 0 x) (0 ∷ 1 ∷ 2 ∷ 3 ∷ 4 ∷ 5 ∷ []) (call .expm-in .result) (a .w .now) w3 R _ (c .before .why .given .1) refl
 
 same-length-2 : tie.Need-same-length-2
@@ -56,11 +52,8 @@ returns-2 c =
     let scaled = copied .before .before .before .before in
     let s = scaled .before .before .before in
     let a = s .args in
-    let w2 = copied .copy .last .0 in
     let w3 = call .expm-in .last .0 in
-    let e = multiple binary64 (a .n) (a .p) (a .w .now) (s .pre) (scaled .times .last .0) w2 (scaled .times .ensures) (copied .copy .ensures) in
-    let k = multiple-only binary64 (a .n) (a .p) (a .w .now) (s .pre) (scaled .times .last .0) w2 (scaled .times .ensures) (copied .copy .ensures) in
-    let R = replaced-more (0 ∷ 1 ∷ 2 ∷ 3 ∷ 4 ∷ 5 ∷ []) (0 ∷ 1 ∷ 2 ∷ 3 ∷ 4 ∷ 5 ∷ []) (a .n) _ (call .expm-in .result) (a .w .now) w2 w3 k (subst (λ (x : List Float). Replaced (0 ∷ 1 ∷ 2 ∷ 3 ∷ 4 ∷ 5 ∷ []) (a .n) (expM binary64 (a .n) x) (call .expm-in .result) w2 w3) e (call .expm-in .ensures)) refl in
+    let R = multiple-replaced binary64 (a .n) (a .p) (expM binary64 (a .n)) (call .expm-in .result) (a .w .now) (scaled .times .last .0) (copied .copy .last .0) w3 (s .pre) (scaled .times .ensures) (copied .copy .ensures) (call .expm-in .ensures) in
     then-replaced (0 ∷ 1 ∷ 2 ∷ 3 ∷ 4 ∷ 5 ∷ []) (a .n) (expM binary64 (a .n) (timesM binary64 (a .n) (a .p) (slot (a .n) (a .w .now) 0))) (λ x. done 0 x) (0 ∷ 1 ∷ 2 ∷ 3 ∷ 4 ∷ 5 ∷ []) (call .expm-in .result) (a .w .now) w3 R _ [] _ w3 (c .before .halvings .given .1) (replaced-by [] (a .n) 0 (slot (a .n) w3 0) w3 w3 refl (only-refl (member []) w3)) refl refl
 
 pub multiple-exponential-spec : {M : Type 1} → statement M
