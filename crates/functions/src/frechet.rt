@@ -143,7 +143,9 @@ pub fn frechet_expm_with(
     }
 }
 
-// The exponential of A and its derivative in the direction E, of height by width, are written to first and second. The second clause is demand 3.
+// The exponential of A and its derivative in the direction E, of height by width, are written to first and second. The first clause says, for all input, the
+// outcome, both outputs and the workspace, by `frechetExpm` of specs/Calls.antt. The second is demand 3: specs/Frechet.antt says what it means, and
+// proofs/FirstOutput.antt proves it.
 pub fn frechet_expm(
     rows: usize,
     columns: usize,
