@@ -1,22 +1,22 @@
 -- Laws of a right-hand matrix in a workspace that is changed by its rows, every column in the same way (Solve.antt). Assumes nothing.
-use Prim.Native.Nat.{ℕ, suc, _+_, _-_, _*_, _/_, _%_, _≤_, _<_}
+use Prim.Native.Nat.{ℕ, zero, suc, _+_, _-_, _*_, _/_, _%_, _≤_, _<_}
 use mathlib.Core.Path.{_≡_, refl, sym, ap, _∙_}
 use mathlib.Core.List.{List, [], _∷_}
 use mathlib.Core.Logic.{_⊎_, inl, inr, ⊎-elim}
-use native.Mathlib.Nat.{div-add-mod', zero-add}
+use native.Mathlib.Nat.{div-add-mod', zero-add, add-zero, mul-one}
 use native.Mathlib.Omega.{arith}
 use lib.ListN.{length, set}
-use lib.Seq.{ext-getD, getD-set-same, getD-set-other, set-comm}
+use lib.Seq.{ext-getD, getD-set-same, getD-set-other, set-set, set-comm}
 use lib.Ieee.{Float, nan}
 use Rattle.arithmetic.specs.Matrix.{tab, at, grid, item, column, part, put, Apart}
 use Rattle.arithmetic.proofs.Order.{split, same-or-not}
-use Rattle.arithmetic.proofs.MatrixLaws.{length-tab, getD-tab, tab-is, length-grid, at-grid, grid-cong, grid-is, item-column, index-lt, row-end, row-lt, column-lt}
+use Rattle.arithmetic.proofs.MatrixLaws.{length-tab, getD-tab, tab-cong, tab-is, length-grid, at-grid, grid-cong, grid-is, item-column, index-lt, row-end, row-lt, column-lt}
 use Rattle.arithmetic.proofs.PartLaws.{length-part, getD-part, at-part, length-put, put-all, put-part, put-put, part-put, part-put-apart, apart-sym, put-tab-more, getD-put-before, getD-put-after, getD-put-in, read-apart, read-next}
 use Rattle.lu.specs.Lu.{exchange, swapRows}
 use Rattle.lu.specs.Solve.{eachColumn, swapItems}
 use Rattle.lu.proofs.LuLaws.{exchange-in, exchange-first, exchange-second, exchange-other}
 
--- ---- two parts change places
+-- ---- stores to a list with a part replaced
 
 -- a store apart from a part that is replaced
 set-put-apart : (w : List Float) (y : ℕ) (xs : List Float) (q : ℕ) (v : Float) → (q < y) ⊎ (y + length xs ≤ q) → set (put w y xs) q v ≡ put (set w q v) y xs
@@ -26,7 +26,14 @@ set-put-apart w y (a ∷ xs) q v h =
     set-put-apart (set w y a) (suc y) xs q v (⊎-elim (λ p. inl (omega arith)) (λ p. inr (omega arith)) h)
     ∙ ap (λ (l : List Float). put l (suc y) xs) (set-comm w y q a v (λ e. ⊎-elim (λ p. omega arith) (λ p. omega arith) h))
 
--- the first j numbers have changed places, and one more
+-- a store within the part
+pub set-put-in : (w : List Float) (x : ℕ) (xs : List Float) (i : ℕ) (v : Float) → i < length xs → set (put w x xs) (x + i) v ≡ put w x (set xs i v)
+unfolding put
+set-put-in w x [] i v h = absurd (omega arith)
+set-put-in w x (a ∷ xs) zero v h = rw add-zero (set-put-apart (set w x a) (suc x) xs x v (inl (omega arith)) ∙ ap (λ (l : List Float). put l (suc x) xs) (set-set w x a v))
+set-put-in w x (a ∷ xs) (suc i) v h = let e : x + suc i ≡ suc x + i = omega arith in rw e (set-put-in (set w x a) (suc x) xs i v (omega arith))
+
+-- two parts change places: the first j numbers, and one more
 pub swap-part-more : (w : List Float) (x y m j : ℕ) (u : List Float) → Apart x m y m → j < m → u ≡ put (put w x (part w y j)) y (part w x j)
     → set (set u (x + j) (item u (y + j))) (y + j) (item u (x + j)) ≡ put (put w x (part w y (j + 1))) y (part w x (j + 1))
 unfolding part
@@ -78,14 +85,20 @@ each-each n m g h k b size same =
     let l : length (column n m b c) ≡ n = length-column n m b c in
     ap (λ (a : List Float). item (g a) r) (column-each n m h b c v (size (column n m b c) l)) ∙ ap (λ (a : List Float). item a r) (same (column n m b c) l))
 
-pub each-cong : (n m : ℕ) (g h : List Float → List Float) (b : List Float) → ((l : List Float) → length l ≡ n → g l ≡ h l) → eachColumn n m g b ≡ eachColumn n m h b
-unfolding eachColumn
-each-cong n m g h b same = grid-cong n m _ _ (λ r c u v. ap (λ (a : List Float). item a r) (same (column n m b c) (length-column n m b c)))
-
 each-same : (n m : ℕ) (g : List Float → List Float) (b : List Float) → length b ≡ n * m → ((l : List Float) → length l ≡ n → g l ≡ l) → b ≡ eachColumn n m g b
 unfolding eachColumn
 each-same n m g b size same =
     grid-is n m _ b size (λ r c u v. sym (ap (λ (a : List Float). item a r) (same (column n m b c) (length-column n m b c)) ∙ item-column n m b c r u))
+
+-- a matrix of one column is that column
+pub each-one : (w : List Float) (x n : ℕ) (g : List Float → List Float) → length (g (part w x n)) ≡ n → put w x (g (part w x n)) ≡ put w x (eachColumn n 1 g (part w x (n * 1)))
+unfolding eachColumn column part at
+each-one w x n g size =
+    ap (put w x)
+    (grid-is n 1 _ (g (part w x n)) (size ∙ sym (mul-one n))
+    (λ r c u v.
+    let e : r * 1 + c ≡ r = omega arith in
+    ap (item (g (part w x n))) e ∙ ap (λ (l : List Float). item (g l) r) (tab-cong n _ _ (λ i h. let d : i * 1 + c ≡ i = omega arith in sym (at-part w x n 1 i c h v ∙ ap (λ q. item w (x + q)) d)))))
 
 -- ---- the same in a workspace, as the loops have it: w₀ before, w on the way, w1 after one step more
 

@@ -1,16 +1,18 @@
 -- Laws of the substitutions by rows: what a row kernel does to every column, and one turn of each loop. w₀ is the workspace before the loop, w in the
 -- turn and w1 after it; F' is what is read of the factors F in the turn. Assumes nothing.
 use Prim.Native.Nat.{ℕ, _+_, _-_, _*_, _≤_, _<_}
-use mathlib.Core.Path.{_≡_, refl, ap, _∙_}
+use mathlib.Core.Path.{_≡_, refl, sym, ap, _∙_}
 use mathlib.Core.List.{List}
+use mathlib.Core.Logic.{_⊎_}
 use native.Mathlib.Omega.{arith}
 use lib.ListN.{length, getD, set, length-set}
-use lib.Ieee.{Float, Format, sub, mul, div}
+use lib.Ieee.{Float, nan, Format, sub, mul, div}
 use Rattle.arithmetic.specs.Matrix.{tab, at, item, part, patch, put, Apart}
 use Rattle.arithmetic.proofs.PatchLaws.{length-patch}
-use Rattle.lu.specs.Solve.{swapItems, permuted, forwardStep, forward, lowered, backStep, back, solved, solvedMatrix, eachColumn}
-use Rattle.lu.proofs.SolveLaws.{permuted-more, length-permuted, forward-row, length-forward, forward-turn, back-row, back-step, length-back, back-turn}
-use Rattle.lu.proofs.RowLaws.{each-turn, factors-kept, row-item, set-row}
+use Rattle.arithmetic.proofs.PartLaws.{length-part, getD-part, getD-put-in, part-put-apart}
+use Rattle.lu.specs.Solve.{swapItems, permuted, forward, lowered, backStep, back, solved, solvedMatrix, eachColumn}
+use Rattle.lu.proofs.SolveLaws.{permuted-more, length-permuted, lowered-kept, lowered-more, forward-step, length-forward, forward-turn, back-step, length-back, back-turn}
+use Rattle.lu.proofs.RowLaws.{set-put-in, each-turn, factors-kept, row-item, set-row}
 
 -- ---- one row
 
@@ -36,29 +38,25 @@ module _ (x n m : ℕ) (w₀ w w1 : List Float) (room : x + n * m ≤ length w�
       (λ l s. length-permuted n ps l k s) (λ l s. permuted-more n ps l k) e1
 
   module _ (f : Format) (F F' : List Float) (same : F' ≡ F) where
-    pub forward-row-turn : (k i : ℕ) → k < i → i < n → w ≡ put w₀ x (eachColumn n m (λ l. patch (k + 1) i (lowered f n F k l) l) (part w₀ x (n * m)))
+    pub lower-turn : (k lo i : ℕ) → k < n → lo ≤ i → i < n → (i ≤ k) ⊎ (k < lo) → w ≡ put w₀ x (eachColumn n m (λ l. patch lo i (lowered f n F k l) l) (part w₀ x (n * m)))
         → w1 ≡ put w x (eachColumn n m (λ l. set l i (lowered f n F' k l i)) (part w x (n * m)))
-        → w1 ≡ put w₀ x (eachColumn n m (λ l. patch (k + 1) (i + 1) (lowered f n F k l) l) (part w₀ x (n * m)))
-    forward-row-turn k i hk hi e e1 =
-        each-turn x n m (λ l. patch (k + 1) i (lowered f n F k l) l) w₀ w room e (λ l. set l i (lowered f n F' k l i)) (λ l. patch (k + 1) (i + 1) (lowered f n F k l) l) w1
-        (λ l s. length-patch (k + 1) i (lowered f n F k l) l ∙ s)
-        (λ l s. forward-row f n F k l i (patch (k + 1) i (lowered f n F k l) l) _ _ (at n F' i k) _ hk (omega arith) refl refl refl (ap (λ (a : List Float). at n a i k) same) refl) e1
+        → w1 ≡ put w₀ x (eachColumn n m (λ l. patch lo (i + 1) (lowered f n F k l) l) (part w₀ x (n * m)))
+    lower-turn k lo i hk from hi apart e e1 =
+        each-turn x n m (λ l. patch lo i (lowered f n F k l) l) w₀ w room e (λ l. set l i (lowered f n F' k l i)) (λ l. patch lo (i + 1) (lowered f n F k l) l) w1
+        (λ l s. length-patch lo i (lowered f n F k l) l ∙ s)
+        (λ l s.
+        lowered-more f n F k lo i l from (patch lo i (lowered f n F k l) l) (at n F' i k) (item (patch lo i (lowered f n F k l) l) k)
+        (omega arith) refl (ap (λ (a : List Float). at n a i k) same) (lowered-kept f n F k lo i l from (omega arith) apart)) e1
 
-    pub forward-rows-turn : (k : ℕ) → w ≡ put w₀ x (eachColumn n m (λ l. forward f n F l k) (part w₀ x (n * m)))
-        → w1 ≡ put w x (eachColumn n m (forwardStep f n F' k) (part w x (n * m)))
+    pub forward-rows-turn : (k : ℕ) → k < n → w ≡ put w₀ x (eachColumn n m (λ l. forward f n F l k) (part w₀ x (n * m)))
+        → w1 ≡ put w x (eachColumn n m (λ l. patch (k + 1) n (lowered f n F' k l) l) (part w x (n * m)))
         → w1 ≡ put w₀ x (eachColumn n m (λ l. forward f n F l (k + 1)) (part w₀ x (n * m)))
-    forward-rows-turn k e e1 =
-        each-turn x n m (λ l. forward f n F l k) w₀ w room e (forwardStep f n F' k) (λ l. forward f n F l (k + 1)) w1
+    forward-rows-turn k hk e e1 =
+        each-turn x n m (λ l. forward f n F l k) w₀ w room e (λ l. patch (k + 1) n (lowered f n F' k l) l) (λ l. forward f n F l (k + 1)) w1
         (λ l s. length-forward f n F l k s)
-        (λ l s. forward-turn f n F l (forward f n F l k) _ k refl (ap (λ (a : List Float). forwardStep f n a k (forward f n F l k)) same)) e1
-
-    pub above-row-turn : (k i : ℕ) → i < k → k < n → w ≡ put w₀ x (eachColumn n m (λ l. patch 0 i (lowered f n F k l) l) (part w₀ x (n * m)))
-        → w1 ≡ put w x (eachColumn n m (λ l. set l i (lowered f n F' k l i)) (part w x (n * m)))
-        → w1 ≡ put w₀ x (eachColumn n m (λ l. patch 0 (i + 1) (lowered f n F k l) l) (part w₀ x (n * m)))
-    above-row-turn k i hi hk e e1 =
-        each-turn x n m (λ l. patch 0 i (lowered f n F k l) l) w₀ w room e (λ l. set l i (lowered f n F' k l i)) (λ l. patch 0 (i + 1) (lowered f n F k l) l) w1
-        (λ l s. length-patch 0 i (lowered f n F k l) l ∙ s)
-        (λ l s. back-row f n F k l i (patch 0 i (lowered f n F k l) l) _ _ (at n F' i k) _ hi (omega arith) refl refl refl (ap (λ (a : List Float). at n a i k) same) refl) e1
+        (λ l s.
+        forward-turn f n F l (forward f n F l k) _ k refl
+        (ap (λ (a : List Float). patch (k + 1) n (lowered f n a k (forward f n F l k)) (forward f n F l k)) same ∙ forward-step f n F k (forward f n F l k) (length-forward f n F l k s) hk)) e1
 
     -- the division, and the rows above
     pub back-step-rows-is : (k : ℕ) → k < n → w ≡ put w₀ x (eachColumn n m (λ l. set l k (div f (item l k) (at n F k k))) (part w₀ x (n * m)))
@@ -76,6 +74,31 @@ module _ (x n m : ℕ) (w₀ w w1 : List Float) (room : x + n * m ≤ length w�
         each-turn x n m (λ l. back f n F l (n - k)) w₀ w room e (backStep f n F' (k - 1)) (λ l. back f n F l (n - (k - 1))) w1
         (λ l s. length-back f n F l (n - k) s)
         (λ l s. back-turn f n F l (back f n F l (n - k)) _ k hk hn refl (ap (λ (a : List Float). backStep f n a (k - 1) (back f n F l (n - k))) same)) e1
+
+-- one column: the factors are at o, v is the number in row k
+pub lower-column-turn : (f : Format) (o x n k lo i : ℕ) (w₀ w : List Float) (q v : Float) → k < n → lo ≤ i → i < n → x + n ≤ length w₀ → Apart o (n * n) x n
+    → w ≡ put w₀ x (patch lo i (lowered f n (part w₀ o (n * n)) k (part w₀ x n)) (part w₀ x n)) → q ≡ at n (part w o (n * n)) i k → v ≡ item w₀ (x + k)
+    → set w (x + i) (sub f (item w (x + i)) (mul f q v)) ≡ put w₀ x (patch lo (i + 1) (lowered f n (part w₀ o (n * n)) k (part w₀ x n)) (part w₀ x n))
+lower-column-turn f o x n k lo i w₀ w q v hk from hi room apart e eq ev =
+    ap (λ (a : List Float). set a (x + i) (sub f (item w (x + i)) (mul f q v))) e
+    ∙ set-put-in w₀ x P i (sub f (item w (x + i)) (mul f q v)) (omega (arith, size))
+    ∙ ap (put w₀ x)
+    (ap (λ u. set P i (sub f u (mul f q v))) (ap (λ (a : List Float). item a (x + i)) e ∙ getD-put-in w₀ x P i nan (omega (arith, size)) (omega (arith, size)))
+    ∙ lowered-more f n F k lo i l from P q v (omega (arith, length-part w₀ x n)) refl
+    (eq ∙ ap (λ (a : List Float). at n a i k) (ap (λ (a : List Float). part a o (n * n)) e ∙ part-put-apart w₀ x n P o (n * n) apart (omega (arith, size))))
+    (ev ∙ sym (getD-part w₀ x n k hk)))
+  where
+    F : List Float
+    F = part w₀ o (n * n)
+
+    l : List Float
+    l = part w₀ x n
+
+    P : List Float
+    P = patch lo i (lowered f n F k l) l
+
+    size : length P ≡ n
+    size = length-patch lo i (lowered f n F k l) l ∙ length-part w₀ x n
 
 -- ---- the solution
 

@@ -2,12 +2,13 @@
 // the factors, a matrix of order n, stand at f.
 ghost use mathlib.Core.Path.{_≡_};
 ghost use mathlib.Core.Bool.{false};
+ghost use mathlib.Core.Logic.{_⊎_};
 ghost use Prim.Native.Nat.{ℕ, _+_, _*_, _<_, _≤_};
 ghost use lib.Dec.{eqb};
 ghost use lib.ListN.{length, getD, set};
 ghost use lib.Ieee.{binary64, sub, mul, div};
 ghost use Rattle.arithmetic.specs.Matrix.{tab, at, item, part, patch, put, Apart};
-ghost use Rattle.lu.specs.Solve.{swapItems, permuted, forwardStep, lowered, backStep, eachColumn, forward as forwardOf, back as backOf};
+ghost use Rattle.lu.specs.Solve.{swapItems, permuted, lowered, backStep, eachColumn, forward as forwardOf, back as backOf};
 
 // The m numbers at y become themselves less v times the m numbers at x.
 pub fn subtract_multiple(w: &mut [f64], x: usize, y: usize, v: f64, m: usize)
@@ -87,15 +88,61 @@ fn lower_row(w: &mut [f64], f: usize, x: usize, n: usize, m: usize, i: usize, k:
     subtract_multiple(w, x + k * m, x + i * m, v, m);
 }
 
-// One column of the factors in the forward substitution.
-pub fn forward_step_rows(w: &mut [f64], f: usize, x: usize, n: usize, m: usize, k: usize)
-    requires { ⌜ (k < n) × (f + n * n ≤ length (now w)) × (x + n * m ≤ length (now w)) × Apart f (n * n) x (n * m) ⌝ }
-    ensures { λ _. ⌜ now (w .exit) ≡ put (now (w .entry)) x (eachColumn n m (forwardStep binary64 n (part (now (w .entry)) f (n * n)) k) (part (now (w .entry)) x (n * m))) ⌝ }
+// The rows from lo up to hi, less their factors in column k times row k.
+fn lower_each_row(
+    w: &mut [f64],
+    f: usize,
+    x: usize,
+    n: usize,
+    m: usize,
+    k: usize,
+    lo: usize,
+    hi: usize,
+)
+    requires { ⌜ (k < n) × (lo ≤ hi) × (hi ≤ n) × ((hi ≤ k) ⊎ (k < lo)) ⌝ }
+    requires { ⌜ (f + n * n ≤ length (now w)) × (x + n * m ≤ length (now w)) × Apart f (n * n) x (n * m) ⌝ }
+    ensures { λ _. ⌜ now (w .exit) ≡ put (now (w .entry)) x (eachColumn n m (λ l. patch lo hi (lowered binary64 n (part (now (w .entry)) f (n * n)) k l) l) (part (now (w .entry)) x (n * m))) ⌝ }
 {
-    let mut i = k + 1;
-    while i < n {
+    let mut i = lo;
+    while i < hi {
         lower_row(w, f, x, n, m, i, k);
         i += 1;
+    }
+}
+
+// The same where there is one column.
+fn lower_column(w: &mut [f64], f: usize, x: usize, n: usize, k: usize, lo: usize, hi: usize)
+    requires { ⌜ (k < n) × (lo ≤ hi) × (hi ≤ n) ⌝ }
+    requires { ⌜ (f + n * n ≤ length (now w)) × (x + n ≤ length (now w)) × Apart f (n * n) x n ⌝ }
+    ensures { λ _. ⌜ now (w .exit) ≡ put (now (w .entry)) x (patch lo hi (lowered binary64 n (part (now (w .entry)) f (n * n)) k (part (now (w .entry)) x n)) (part (now (w .entry)) x n)) ⌝ }
+{
+    let v = w[x + k];
+    let mut i = lo;
+    while i < hi {
+        w[x + i] = w[x + i] - factor_at(w, f, n, i, k) * v;
+        i += 1;
+    }
+}
+
+// The same: a single column has a loop of its own, which is faster.
+pub fn lower_rows(
+    w: &mut [f64],
+    f: usize,
+    x: usize,
+    n: usize,
+    m: usize,
+    k: usize,
+    lo: usize,
+    hi: usize,
+)
+    requires { ⌜ (k < n) × (lo ≤ hi) × (hi ≤ n) × ((hi ≤ k) ⊎ (k < lo)) ⌝ }
+    requires { ⌜ (f + n * n ≤ length (now w)) × (x + n * m ≤ length (now w)) × Apart f (n * n) x (n * m) ⌝ }
+    ensures { λ _. ⌜ now (w .exit) ≡ put (now (w .entry)) x (eachColumn n m (λ l. patch lo hi (lowered binary64 n (part (now (w .entry)) f (n * n)) k l) l) (part (now (w .entry)) x (n * m))) ⌝ }
+{
+    if m == 1 {
+        lower_column(w, f, x, n, k, lo, hi);
+    } else {
+        lower_each_row(w, f, x, n, m, k, lo, hi);
     }
 }
 
@@ -106,20 +153,8 @@ pub fn forward_rows(w: &mut [f64], f: usize, x: usize, n: usize, m: usize)
 {
     let mut k = 0;
     while k < n {
-        forward_step_rows(w, f, x, n, m, k);
+        lower_rows(w, f, x, n, m, k, k + 1, n);
         k += 1;
-    }
-}
-
-// The rows above row k, less their factors in column k times row k.
-pub fn subtract_above_rows(w: &mut [f64], f: usize, x: usize, n: usize, m: usize, k: usize)
-    requires { ⌜ (k < n) × (f + n * n ≤ length (now w)) × (x + n * m ≤ length (now w)) × Apart f (n * n) x (n * m) ⌝ }
-    ensures { λ _. ⌜ now (w .exit) ≡ put (now (w .entry)) x (eachColumn n m (λ l. patch 0 k (lowered binary64 n (part (now (w .entry)) f (n * n)) k l) l) (part (now (w .entry)) x (n * m))) ⌝ }
-{
-    let mut i = 0;
-    while i < k {
-        lower_row(w, f, x, n, m, i, k);
-        i += 1;
     }
 }
 
@@ -130,7 +165,7 @@ pub fn back_step_rows(w: &mut [f64], f: usize, x: usize, n: usize, m: usize, k: 
 {
     let d = factor_at(w, f, n, k, k);
     divide_row(w, x + k * m, d, m);
-    subtract_above_rows(w, f, x, n, m, k);
+    lower_rows(w, f, x, n, m, k, 0, k);
 }
 
 // The back substitution.

@@ -3,6 +3,7 @@
 use Prim.Native.Nat.{_-_, _*_, _≤_}
 use native.Mathlib.Omega.{arith}
 use mathlib.Core.Path.{_≡_, refl, _∙_}
+use mathlib.Core.Logic.{inr}
 use lib.ListN.{length}
 use lib.Ieee.{binary64}
 use Rattle.arithmetic.specs.Matrix.{part, put}
@@ -27,12 +28,15 @@ loop-holds c =
     let a = s .args in
     (omega arith, refl, each-none (a .w .now) (a .x) (a .n) (a .m) (λ l. forward binary64 (a .n) (part (a .w .now) (a .f) (a .n * a .n)) l 0) (s .pre .1) (λ l h. refl))
 
-forward-step-rows-requires : tie.Need-forward-step-rows-requires Inv-loop μ-loop
-forward-step-rows-requires c κs =
+add-lower-rows : tie.Need-add-lower-rows Inv-loop μ-loop
+add-lower-rows c = search needs
+
+lower-rows-requires : tie.Need-lower-rows-requires Inv-loop μ-loop
+lower-rows-requires c κs =
     let turn = c .before in
     let l = turn .before .loop in
     let s = turn .before .before .before in
-    (turn .loop-test .taken, omega (arith, s .pre .0, l .inv .1), omega (arith, s .pre .1, l .inv .1), s .pre .2)
+    ((turn .loop-test .taken, omega arith, omega arith, inr (omega arith)), (omega (arith, s .pre .0, l .inv .1), omega (arith, s .pre .1, l .inv .1), s .pre .2))
 
 add-k : tie.Need-add-k Inv-loop μ-loop
 add-k c = search needs
@@ -50,9 +54,9 @@ loop-again c =
     let F = part (a .w .now) (a .f) (a .n * a .n) in
     let kept = factors-kept (a .x) (a .n) (a .m) (λ u. forward binary64 (a .n) F u (l .k)) (a .w .now) (l .w) (s .pre .1) (l .inv .2) (a .f) (s .pre .2) in (
       omega (arith, turn .loop-test .taken),
-      call .forward-step-rows .kept .0 ∙ l .inv .1,
-      forward-rows-turn (a .x) (a .n) (a .m) (a .w .now) (l .w) (call .forward-step-rows .last .0) (s .pre .1) binary64 F (part (l .w) (a .f) (a .n * a .n)) kept
-          (l .k) (l .inv .2) (call .forward-step-rows .ensures),
+      call .lower-rows .kept .0 ∙ l .inv .1,
+      forward-rows-turn (a .x) (a .n) (a .m) (a .w .now) (l .w) (call .lower-rows .last .0) (s .pre .1) binary64 F (part (l .w) (a .f) (a .n * a .n)) kept
+          (l .k) (turn .loop-test .taken) (l .inv .2) (call .lower-rows .ensures),
     )
 
 same-length : tie.Need-same-length Inv-loop μ-loop
@@ -70,7 +74,8 @@ forward-rows-spec =
     Inv-loop
     μ-loop
     loop-holds
-    forward-step-rows-requires
+    add-lower-rows
+    lower-rows-requires
     add-k
     loop-less
     loop-again

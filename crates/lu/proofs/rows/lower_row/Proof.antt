@@ -1,10 +1,10 @@
 -- `lower_row` meets its contract: the row of its kernel is an element of each column. Assumes nothing.
+use Prim.Native.Nat.{_*_}
 use native.Mathlib.Omega.{arith}
 use lib.Ieee.{binary64}
-use Rattle.arithmetic.proofs.MatrixLaws.{row-end}
-use Rattle.arithmetic.specs.Matrix.{part}
-use Prim.Native.Nat.{_*_}
 use borrow.Author.Tests.{eqb-false}
+use Rattle.arithmetic.specs.Matrix.{part}
+use Rattle.arithmetic.proofs.MatrixLaws.{row-end}
 use Rattle.lu.proofs.RowLaws.{rows-apart}
 use Rattle.lu.proofs.RowSteps.{lower-row-is}
 use borrow.Author.Needs.{needs}

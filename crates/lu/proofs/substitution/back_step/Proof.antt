@@ -1,6 +1,5 @@
 -- `back_step` meets its contract: the division, and the rows above.
 -- Assumes nothing.
-use Prim.Native.Nat.{_-_}
 use mathlib.Core.Path.{ap, _∙_}
 use lib.ListN.{getD, set, length-set}
 use lib.Ieee.{binary64, nan, div}

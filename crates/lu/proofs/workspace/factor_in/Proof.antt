@@ -1,6 +1,5 @@
 -- `factor_in` meets its contract: the part of w is lent to `factor_matrix` and comes back.
 -- Assumes nothing.
-use Prim.Native.Nat.{_-_}
 use lib.Ieee.{binary64}
 use Rattle.lu.proofs.LuLaws.{done-in}
 use borrow.Author.Needs.{needs}
