@@ -1,5 +1,5 @@
 -- Laws of the Sylvester system in a workspace, and of the derivative of the square root. Assumes nothing.
-use Prim.Native.Nat.{ℕ, zero, suc, _+_, _-_, _*_, _≤_, _<_}
+use Prim.Native.Nat.{ℕ, _+_, _-_, _*_, _≤_, _<_}
 use native.Mathlib.Nat.{mul-le-mul, mul-one}
 use native.Mathlib.Omega.{arith}
 use mathlib.Core.Path.{_≡_, refl, sym, ap, _∙_}
@@ -21,15 +21,16 @@ use Rattle.arithmetic.specs.declared.answer.Outcome.the-variants.{Done, Refused
 use Rattle.arithmetic.specs.declared.answer.Refusal.{Refusal}
 use Rattle.arithmetic.specs.declared.answer.Refusal.the-variants.{NotConverged}
 use Rattle.arithmetic.proofs.BothLaws.{call-done}
-use Rattle.arithmetic.proofs.MatrixLaws.{square-le, length-tab, tab-is, length-grid, grid-is}
+use Rattle.arithmetic.proofs.MatrixLaws.{square-le, tab-is, length-grid, grid-is}
 use Rattle.arithmetic.proofs.PartLaws.{length-part, length-put, part-put, part-put-apart, returned}
 use Rattle.arithmetic.proofs.Slots.{only-trans, only-more, only-run, only-store, slot-only, slot-store}
 use Rattle.arithmetic.proofs.States.{Held, start, step-store, step-transpose, step-call, held-at, member-among}
 use Rattle.lu.specs.declared.LuOutcome.{LuOutcome}
 use Rattle.lu.specs.declared.LuOutcome.the-variants.{Factored, Singular}
 use Rattle.lu.specs.Lu.{luOutcome, luFactors, luPivots, luAt}
-use Rattle.lu.specs.Solve.{permuted, swapItems, forward, forwardStep, back, backStep, solved, solvedMatrix, divided, standIn, whereFactored}
+use Rattle.lu.specs.Solve.{permuted, forward, solved, solvedMatrix, divided, standIn, whereFactored}
 use Rattle.lu.proofs.LuLaws.{length-luAt}
+use Rattle.lu.proofs.SolveLaws.{length-permuted, length-forward, length-back}
 use Rattle.lu.proofs.DivisionLaws.{length-solvedMatrix}
 use Rattle.functions.specs.Roots.{orNotConverged, squareRoot}
 use Rattle.functions.specs.Derivatives.{sylvesterMatrix, sylvester, scalarDerivative, rootDerivative, frechetSqrtM}
@@ -52,21 +53,6 @@ system-filled f n w s m h room es em =
     returned w m 2048 (n * n * (n * n)) (ap length em ∙ length-sylvesterMatrix f n s) (omega (arith, fourth-le n h)) ∙ ap (put w 2048) (em ∙ ap (sylvesterMatrix f n) es)
 
 -- ---- one right-hand column is its own matrix
-
-length-permuted : (n : ℕ) (ps : List ℕ) (x : List Float) (k : ℕ) → length x ≡ n → length (permuted n ps x k) ≡ n
-unfolding permuted swapItems
-length-permuted n ps x zero h = h
-length-permuted n ps x (suc k) h = length-tab n _
-
-length-forward : (f : Format) (n : ℕ) (F x : List Float) (k : ℕ) → length x ≡ n → length (forward f n F x k) ≡ n
-unfolding forward forwardStep
-length-forward f n F x zero h = h
-length-forward f n F x (suc k) h = length-tab n _
-
-length-back : (f : Format) (n : ℕ) (F x : List Float) (d : ℕ) → length x ≡ n → length (back f n F x d) ≡ n
-unfolding back backStep
-length-back f n F x zero h = h
-length-back f n F x (suc d) h = length-tab n _
 
 module _ (f : Format) (n : ℕ) (F : List Float) (ps : List ℕ) (b : List Float) (long : length b ≡ n) where
   length-solved : length (solved f n F ps b) ≡ n
