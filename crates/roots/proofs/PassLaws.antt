@@ -5,10 +5,13 @@ use mathlib.Core.Bool.{Bool, true, false, true≢false}
 use mathlib.Core.List.{List}
 use mathlib.Core.Option.{some}
 use lib.Dec.{eqb}
-use lib.Ieee.{Float, Format}
-use Rattle.arithmetic.specs.Matrix.{part}
+use lib.Ieee.{Float, Format, sub}
+use Rattle.arithmetic.specs.Root.{sqrtOf}
+use Rattle.arithmetic.specs.Matrix.{part, tab, item}
+use Rattle.arithmetic.specs.Norm.{sumOfSquares, frobenius, difference}
 use Rattle.arithmetic.specs.Result.{done, refused}
 use Rattle.arithmetic.specs.Workspace.{Room, slot, member, Only}
+use Rattle.arithmetic.proofs.ProductLaws.{subM-parts}
 use Rattle.arithmetic.proofs.Slots.{only-refl, only-trans}
 use Rattle.lu.specs.declared.LuOutcome.{LuOutcome}
 use Rattle.lu.specs.declared.LuOutcome.the-variants.{Factored, Singular}
@@ -25,6 +28,11 @@ use Rattle.roots.proofs.IterateLaws.{goes-on, stops, fails, runs-out}
 pub step-tested : {S : Type 0} (b : Bool) (x : S) → asStep (tested b) x ≡ verdict b x
 step-tested true x = refl
 step-tested false x = refl
+
+-- the norm of the difference of two slots, from the sum of the squares
+pub root-of-squares : (f : Format) (n : ℕ) (w : List Float) (a b : ℕ) (s : Float) → s ≡ sumOfSquares f (n * n) (tab (n * n) (λ i. sub f (item w (256 * a + i)) (item w (256 * b + i)))) → sqrtOf f s ≡ difference f n (slot n w a) (slot n w b)
+unfolding difference frobenius slot
+root-of-squares f n w a b s e = ap (sqrtOf f) e ∙ ap (λ (x : List Float). sqrtOf f (sumOfSquares f (n * n) x)) (sym (subM-parts f n w (256 * a) (256 * b)))
 
 -- what an iteration that has a result ends with, and one that failed
 pub answers-ended : {S : Type 0} (p : Pass) (x : S) → answered p ≡ true → done 0 x ≡ ended (asStep p x)

@@ -9,7 +9,7 @@ use crate::division::divide_slot;
 use crate::pass::Pass;
 use crate::pass::root_verdict;
 use arithmetic::float::of_small;
-use arithmetic::norm::difference;
+use arithmetic::norm::sum_of_squared_differences;
 use arithmetic::norm::trace;
 use arithmetic::root::sqrt;
 use arithmetic::workspace::copy;
@@ -23,9 +23,9 @@ fn newton_mean(w: &mut [f64], n: usize) -> Pass
     ensures { λ r. ⌜ NewtonMean binary64 n r (now (w .entry)) (now (w .exit)) ⌝ }
 {
     mean(w, 1, 3, 2, n);
-    let change = difference(w, 1, 2, n);
+    let sum = sum_of_squared_differences(w, 256, 512, n * n);
     copy(w, 2, 1, n);
-    root_verdict(change)
+    root_verdict(sum)
 }
 
 // One pass: x becomes the mean of itself and y, where x y = a.

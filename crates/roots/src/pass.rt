@@ -1,8 +1,10 @@
 // The passes of an iteration that stops early or fails.
 ghost use mathlib.Core.Path.{_≡_};
 ghost use lib.Ieee.{binary64, lt};
+ghost use Rattle.arithmetic.specs.Root.{sqrtOf};
 ghost use Rattle.functions.specs.Roots.{rootTolerance};
 ghost use Rattle.roots.specs.Passes.{tested, answered};
+use arithmetic::root::sqrt;
 
 // What a pass makes of its iteration.
 pub enum Pass {
@@ -11,11 +13,15 @@ pub enum Pass {
     Failed,
 }
 
-// A root's pass is the last where the Frobenius norm of the change is below 100 * 2^-52.
-pub fn root_verdict(change: f64) -> Pass
-    ensures { λ r. ⌜ r ≡ tested (lt change (rootTolerance binary64)) ⌝ }
+// A root's pass is the last where the Frobenius norm of the change, the root of `sum`, is below 100 * 2^-52.
+// Where the sum exceeds 2^-80 the root is 2^-40 at least, and is not worked out.
+pub fn root_verdict(sum: f64) -> Pass
+    ensures { λ r. ⌜ r ≡ tested (lt (sqrtOf binary64 sum) (rootTolerance binary64)) ⌝ }
 {
-    if change < 2.220446049250313e-16 * 100.0 {
+    if sum > 8.271806125530277e-25 {
+        return Pass::Running;
+    }
+    if sqrt(sum) < 2.220446049250313e-16 * 100.0 {
         Pass::Stopped
     } else {
         Pass::Running

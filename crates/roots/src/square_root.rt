@@ -12,7 +12,7 @@ use crate::pass::answers;
 use crate::pass::root_verdict;
 use arithmetic::answer::Outcome;
 use arithmetic::answer::Refusal;
-use arithmetic::norm::difference;
+use arithmetic::norm::sum_of_squared_differences;
 use arithmetic::root::sqrt;
 use arithmetic::workspace::copy;
 use arithmetic::workspace::identity;
@@ -26,10 +26,10 @@ fn means(w: &mut [f64], n: usize) -> Pass
 {
     mean(w, 0, 3, 2, n);
     mean(w, 1, 4, 5, n);
-    let change = difference(w, 0, 2, n);
+    let sum = sum_of_squared_differences(w, 0, 512, n * n);
     copy(w, 2, 0, n);
     copy(w, 5, 1, n);
-    root_verdict(change)
+    root_verdict(sum)
 }
 
 // The pass from the inverse of y on. 1 / z stands in slot 3.

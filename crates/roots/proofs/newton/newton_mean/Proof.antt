@@ -1,5 +1,9 @@
 -- `newton_mean` meets its contract: a step for each call. Assumes nothing.
+use native.Mathlib.Omega.{arith}
 use lib.Ieee.{binary64}
+use Rattle.arithmetic.specs.Root.{sqrtOf}
+use Rattle.arithmetic.proofs.MatrixLaws.{square-le}
+use Rattle.roots.proofs.PassLaws.{root-of-squares}
 use Rattle.roots.proofs.NewtonLaws.{newton-mean-steps}
 use borrow.Author.Needs.{needs}
 use Rattle.roots.proofs.newton.newton_mean.Statement.{statement}
@@ -8,8 +12,11 @@ use Rattle.roots.proofs.newton.newton_mean.Tie as tie
 mean-requires : tie.Need-mean-requires
 mean-requires c κs = search needs
 
-difference-requires : tie.Need-difference-requires
-difference-requires c κs = search needs
+mul-sum-of-squared-differences : tie.Need-mul-sum-of-squared-differences
+mul-sum-of-squared-differences c = omega (arith, square-le (c .before .before .before .before .before .before .args .n) (c .before .before .before .before .before .before .pre .order))
+
+sum-of-squared-differences-requires : tie.Need-sum-of-squared-differences-requires
+sum-of-squared-differences-requires c κs = omega (arith, square-le (c .before .before .before .before .before .before .args .n) (c .before .before .before .before .before .before .pre .order))
 
 copy-requires : tie.Need-copy-requires
 copy-requires c κs = search needs
@@ -23,14 +30,16 @@ same-length c = search needs
 returns : tie.Need-returns
 returns c =
     let s = c .before .before .before .before .before .before .before .before .before .before .before .before in
-    newton-mean-steps binary64 (s .args .n) (s .args .w .now) (s .pre) (c .before .before .before .before .before .before .before .before .before .mean .last .0) (c .before .before .before .copy .last .0) (c .before .before .before .before .before .difference .result) (c .root-verdict .result) (c .before .before .before .before .before .before .before .before .before .mean .ensures) (c .before .before .before .before .before .difference .ensures) (c .before .before .before .copy .ensures) (c .root-verdict .ensures)
+    let d = c .before .before .before .before .before .sum-of-squared-differences in
+    newton-mean-steps binary64 (s .args .n) (s .args .w .now) (s .pre) (c .before .before .before .before .before .before .before .before .before .mean .last .0) (c .before .before .before .copy .last .0) (sqrtOf binary64 (d .result)) (c .root-verdict .result) (c .before .before .before .before .before .before .before .before .before .mean .ensures) (root-of-squares binary64 (s .args .n) (c .before .before .before .before .before .before .before .before .before .mean .last .0) 1 2 (d .result) (d .ensures)) (c .before .before .before .copy .ensures) (c .root-verdict .ensures)
 
 pub newton-mean-spec : {M : Type 1} → statement M
 newton-mean-spec =
     tie.close
     (tie.spec
     mean-requires
-    difference-requires
+    mul-sum-of-squared-differences
+    sum-of-squared-differences-requires
     copy-requires
     root-verdict-requires
     same-length
