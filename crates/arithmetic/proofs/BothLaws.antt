@@ -2,7 +2,7 @@
 use Prim.Native.Nat.{ℕ, _*_, _≤_, _<_}
 use native.Mathlib.Omega.{arith}
 use mathlib.Core.Path.{_≡_, refl, ap, sym, _∙_}
-use mathlib.Core.Bool.{Bool, true, false}
+use mathlib.Core.Bool.{Bool, true, false, cond}
 use mathlib.Core.List.{List}
 use lib.Dec.{ltb, eqb}
 use lib.ListN.{length}
@@ -24,7 +24,7 @@ use Rattle.arithmetic.proofs.Slots.{slot-store, slot-other, slots-apart
 use Rattle.arithmetic.proofs.States.{among, member-among}
 use Rattle.arithmetic.proofs.QuestionLaws.{as-refused}
 use Rattle.arithmetic.proofs.AnswerLaws.{answer-passed, outcome-no, exit-no, workspace-no}
-use Rattle.arithmetic.proofs.OutputLaws.{Late, late-workspace, exit-done, exit-refused, exit-as}
+use Rattle.arithmetic.proofs.OutputLaws.{Late, late-where, kept-where, exit-done, exit-refused, exit-as}
 
 -- ---- a call on the way, by its outcome
 
@@ -45,7 +45,7 @@ call-refused (done t u) o y p e =
 -- ---- the two ends of a delivery
 
 module _ (clears : Bool) (given o : Outcome) (v d first second w w′ : List Float) where
-  pub both-delivered : (first′ second′ : List Float) (s : ℕ) → given ≡ Done s → reported o ≡ done s tt → first′ ≡ v → second′ ≡ d → (clears ≡ true → w′ ≡ cleared w)
+  pub both-delivered : (first′ second′ : List Float) (s : ℕ) → given ≡ Done s → reported o ≡ done s tt → first′ ≡ v → second′ ≡ d → w′ ≡ cond clears (cleared w) w
       → DeliveredBoth clears given o v d first first′ second second′ w w′
   both-delivered first′ second′ s e k x y z = record {
     outcome = k ∙ sym (ap reported e);
@@ -54,7 +54,7 @@ module _ (clears : Bool) (given o : Outcome) (v d first second w w′ : List Flo
     workspace = z;
   }
 
-  pub both-kept : (x : Refusal) → given ≡ Refused x → reported o ≡ numbered x → (clears ≡ true → w′ ≡ cleared w) → DeliveredBoth clears given o v d first first second second w w′
+  pub both-kept : (x : Refusal) → given ≡ Refused x → reported o ≡ numbered x → w′ ≡ cond clears (cleared w) w → DeliveredBoth clears given o v d first first second second w w′
   both-kept x e k z = record {
     outcome = k ∙ sym (ap reported e);
     value = sym (exit-refused v first given x e);
@@ -71,7 +71,7 @@ module _ (p : Profile) (c : Call) (q : Question) (h : found q ≡ asked p c) (cl
     outcome = k ∙ sym (outcome-no p c r q h x e);
     value = sym (exit-no p c r q h x e (λ (b : Both). b .value) first);
     derivative = sym (exit-no p c r q h x e (λ (b : Both). b .derivative) second);
-    workspace = λ _. sym (workspace-no p c r q h x e w);
+    workspace = kept-where clears (answer p c r) w (sym (workspace-no p c r q h x e w));
   }
 
   -- None does: the matrix a is copied to slot 0 and the direction d to slot t, slots 0 and 1 are replaced by what g gives for them, and delivered.
@@ -96,10 +96,10 @@ module _ (p : Profile) (c : Call) (q : Question) (h : found q ≡ asked p c) (cl
         outcome = D′ .outcome ∙ R′ .outcome;
         value = D′ .value ∙ exit-as (slot n w3 0) first given (g a d) (λ (b : Both). b .value) (R′ .outcome) (R′ .value);
         derivative = D′ .derivative ∙ exit-as (slot n w3 1) second given (g a d) (λ (b : Both). b .derivative) (R′ .outcome) (R′ .derivative);
-        workspace = λ t. D′ .workspace t ∙ cleared-only w w3 room all ∙ sym (late-workspace (g a d) w l);
+        workspace = late-where clears (g a d) w w3 w4 l (D′ .workspace) (cleared-only w w3 room all);
       })
 
 -- ---- a call that clears
 
 pub clearing-two : {x : Result Both} {o : Outcome} {first first′ second second′ w w′ : List Float} → TwoOutputsWith true x o first first′ second second′ w w′ → TwoOutputsIn x o first first′ second second′ w w′
-clearing-two R = record { outcome = R .outcome; value = R .value; derivative = R .derivative; workspace = R .workspace refl }
+clearing-two R = record { outcome = R .outcome; value = R .value; derivative = R .derivative; workspace = R .workspace }

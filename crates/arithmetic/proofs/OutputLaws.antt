@@ -2,7 +2,7 @@
 use Prim.Native.Nat.{ℕ, _*_, _≤_}
 use native.Mathlib.Omega.{arith}
 use mathlib.Core.Path.{_≡_, refl, ap, sym, _∙_}
-use mathlib.Core.Bool.{Bool, true, cond}
+use mathlib.Core.Bool.{Bool, true, false, cond}
 use mathlib.Core.List.{List}
 use lib.Dec.{ltb}
 use lib.ListN.{length}
@@ -36,6 +36,16 @@ pub late-workspace : {A : Type 0} (r : Result A) (w : List Float) → Late r →
 unfolding workspace
 late-workspace (refused k x y) w h = ap (λ (b : Bool). cond b w (cleared w)) (lt-leb k 11 (omega arith))
 late-workspace (done s a) w h = refl
+
+-- Where nothing was to be cleared, it is so once it is cleared: w2 is what the call made of w, and w3 what is left of it.
+pub late-where : {A : Type 0} (clears : Bool) (r : Result A) (w w2 w3 : List Float) → Late r → w3 ≡ cond clears (cleared w2) w2 → cleared w2 ≡ cleared w → cond clears w3 (workspace r w3) ≡ workspace r w
+late-where true r w w2 w3 h d e = d ∙ e ∙ sym (late-workspace r w h)
+late-where false r w w2 w3 h d e = late-workspace r w3 h ∙ ap cleared d ∙ e ∙ sym (late-workspace r w h)
+
+-- what is left as it was lent
+pub kept-where : {A : Type 0} (clears : Bool) (r : Result A) (w : List Float) → w ≡ workspace r w → cond clears w (workspace r w) ≡ workspace r w
+kept-where true r w e = e
+kept-where false r w e = refl
 
 pub late-bind : {A B : Type 0} (r : Result A) (g : A → Result B) → Late r → ((a : A) → Late (g a)) → Late (r >>= g)
 unfolding _>>=_
@@ -83,11 +93,11 @@ module _ (p : Profile) (c : Call) (q : Question) (h : found q ≡ asked p c) (o 
 -- ---- one output and a workspace
 
 -- the two ends of a delivery
-pub delivered-done : (clears : Bool) (given o : Outcome) (v before after w w′ : List Float) (s : ℕ) → given ≡ Done s → reported o ≡ done s tt → after ≡ v → (clears ≡ true → w′ ≡ cleared w)
+pub delivered-done : (clears : Bool) (given o : Outcome) (v before after w w′ : List Float) (s : ℕ) → given ≡ Done s → reported o ≡ done s tt → after ≡ v → w′ ≡ cond clears (cleared w) w
     → Delivered clears given o v before after w w′
 delivered-done clears given o v before after w w′ s e k x y = record { outcome = k ∙ sym (ap reported e); output = x ∙ sym (exit-done v before given s e); workspace = y }
 
-pub delivered-none : (clears : Bool) (given o : Outcome) (v before w w′ : List Float) (x : Refusal) → given ≡ Refused x → reported o ≡ numbered x → (clears ≡ true → w′ ≡ cleared w)
+pub delivered-none : (clears : Bool) (given o : Outcome) (v before w w′ : List Float) (x : Refusal) → given ≡ Refused x → reported o ≡ numbered x → w′ ≡ cond clears (cleared w) w
     → Delivered clears given o v before before w w′
 delivered-none clears given o v before w w′ x e k y = record { outcome = k ∙ sym (ap reported e); output = sym (exit-refused v before given x e); workspace = y }
 
@@ -97,7 +107,7 @@ module _ (p : Profile) (c : Call) (q : Question) (h : found q ≡ asked p c) (cl
   one-refused r x e k = record {
     outcome = k ∙ sym (outcome-no p c r q h x e);
     output = sym (exit-no p c r q h x e (λ v. v) before);
-    workspace = λ _. sym (workspace-no p c r q h x e w);
+    workspace = kept-where clears (answer p c r) w (sym (workspace-no p c r q h x e w));
   }
 
   -- none does: the matrix a is copied to slot 0, replaced by what g gives for it, and delivered
@@ -115,10 +125,10 @@ module _ (p : Profile) (c : Call) (q : Question) (h : found q ≡ asked p c) (cl
       rw (answer-passed p c (g a) q h e) (record {
         outcome = D′ .outcome ∙ R′ .outcome;
         output = D′ .output ∙ exit-as (slot n w2 0) before given (g a) (λ v. v) (R′ .outcome) (R′ .result);
-        workspace = λ t. D′ .workspace t ∙ cleared-only w w2 room all ∙ sym (late-workspace (g a) w l);
+        workspace = late-where clears (g a) w w2 w3 l (D′ .workspace) (cleared-only w w2 room all);
       })
 
 -- ---- a call that clears
 
 pub clearing-one : {x : Result (List Float)} {o : Outcome} {before after w w′ : List Float} → OneOutputWith true x o before after w w′ → OneOutputIn x o before after w w′
-clearing-one R = record { outcome = R .outcome; output = R .output; workspace = R .workspace refl }
+clearing-one R = record { outcome = R .outcome; output = R .output; workspace = R .workspace }

@@ -1,7 +1,7 @@
 -- What a call leaves, of the result that its definition gives. Definitions only.
 use Prim.Native.Nat.{ℕ}
 use mathlib.Core.Path.{_≡_}
-use mathlib.Core.Bool.{Bool, true}
+use mathlib.Core.Bool.{Bool, cond}
 use mathlib.Core.List.{List}
 use lib.Ieee.{Float}
 use Rattle.arithmetic.specs.Workspace.{slot, member, Only, cleared}
@@ -20,18 +20,18 @@ pub record OneOutputIn (x : Result (List Float)) (o : Outcome) (before after w w
   pub output : after ≡ exit (λ v. v) x before
   pub workspace : w′ ≡ workspaceOf x w
 
--- the same where the workspace is cleared only if `clears` is true
+-- the same where the workspace is cleared only if `clears` is true: otherwise it is as the definition says once it is cleared
 pub record OneOutputWith (clears : Bool) (x : Result (List Float)) (o : Outcome) (before after w w′ : List Float) : Type 0 where
   pub outcome : reported o ≡ outcomeOf x
   pub output : after ≡ exit (λ v. v) x before
-  pub workspace : clears ≡ true → w′ ≡ workspaceOf x w
+  pub workspace : cond clears w′ (workspaceOf x w′) ≡ workspaceOf x w
 
 -- the two outputs of a derivative: the function's value, and the derivative
 pub record Both : Type 0 where
   pub value : List Float
   pub derivative : List Float
 
--- a call with these two outputs and a workspace, and the same where the workspace is cleared only if `clears` is true
+-- a call with these two outputs and a workspace, and the same where it is cleared only if `clears` is true
 pub record TwoOutputsIn (x : Result Both) (o : Outcome) (first first′ second second′ w w′ : List Float) : Type 0 where
   pub outcome : reported o ≡ outcomeOf x
   pub value : first′ ≡ exit (λ (b : Both). b .value) x first
@@ -42,7 +42,7 @@ pub record TwoOutputsWith (clears : Bool) (x : Result Both) (o : Outcome) (first
   pub outcome : reported o ≡ outcomeOf x
   pub value : first′ ≡ exit (λ (b : Both). b .value) x first
   pub derivative : second′ ≡ exit (λ (b : Both). b .derivative) x second
-  pub workspace : clears ≡ true → w′ ≡ workspaceOf x w
+  pub workspace : cond clears w′ (workspaceOf x w′) ≡ workspaceOf x w
 
 -- ---- the parts of such a call
 
@@ -56,7 +56,7 @@ pub record Replaced (ss : List ℕ) (n : ℕ) (x : Result (List Float)) (o : Out
 pub record Delivered (clears : Bool) (given o : Outcome) (v before after w w′ : List Float) : Type 0 where
   pub outcome : reported o ≡ reported given
   pub output : after ≡ exit (λ _. v) (reported given) before
-  pub workspace : clears ≡ true → w′ ≡ cleared w
+  pub workspace : w′ ≡ cond clears (cleared w) w
 
 -- the same with two outputs: the value's matrix stands in slot 0 and the derivative's in slot 1
 pub record ReplacedBoth (ss : List ℕ) (n : ℕ) (x : Result Both) (o : Outcome) (w w′ : List Float) : Type 0 where
@@ -69,4 +69,4 @@ pub record DeliveredBoth (clears : Bool) (given o : Outcome) (v d first first′
   pub outcome : reported o ≡ reported given
   pub value : first′ ≡ exit (λ _. v) (reported given) first
   pub derivative : second′ ≡ exit (λ _. d) (reported given) second
-  pub workspace : clears ≡ true → w′ ≡ cleared w
+  pub workspace : w′ ≡ cond clears (cleared w) w

@@ -3,6 +3,7 @@ use Prim.Native.Nat.{ℕ, _+_, _*_, _≤_}
 use native.Mathlib.Omega.{arith}
 use native.Mathlib.Nat.{zero-add, mul-le-mul}
 use mathlib.Core.Path.{_≡_, refl, sym, ap, _∙_}
+use mathlib.Core.Bool.{Bool, cond}
 use mathlib.Core.List.{List}
 use lib.Dec.{ltb}
 use lib.ListN.{length}
@@ -27,7 +28,7 @@ use Rattle.arithmetic.proofs.ProductLaws.{length-diagonalM}
 use Rattle.arithmetic.proofs.Slots.{only-store, only-trans, cleared-only}
 use Rattle.arithmetic.proofs.QuestionLaws.{as-refused}
 use Rattle.arithmetic.proofs.AnswerLaws.{answer-passed, outcome-no, exit-no}
-use Rattle.arithmetic.proofs.OutputLaws.{Late, late-workspace}
+use Rattle.arithmetic.proofs.OutputLaws.{Late, late-where}
 use Rattle.functions.specs.Derivatives.{Condition, unitDirection, conditionOf, conditioned, condExpM, frechetExpM}
 use Rattle.functions.specs.Frechet.{Written}
 use Rattle.functions.specs.Conditions.{Rated, rated, Conditioned}
@@ -103,5 +104,6 @@ module _ (P : Profile) (c : Call) (q : Question) (h : found q ≡ asked P c) (o 
   pub condition-passed : q ≡ Passed → Conditioned x o p d e → Conditioned (answer P c x) o p d e
   condition-passed t C = rw (answer-passed P c x q h t) C
 
-  pub workspace-passed : (w w1 w2 : List Float) → q ≡ Passed → Late x → 8192 ≤ length w → Only (λ s. ltb s 32) w w1 → w2 ≡ cleared w1 → w2 ≡ workspace (answer P c x) w
-  workspace-passed w w1 w2 t l room only v = rw (answer-passed P c x q h t) (v ∙ cleared-only w w1 room only ∙ sym (late-workspace x w l))
+  pub workspace-passed : (clears : Bool) (w w1 w2 : List Float) → q ≡ Passed → Late x → 8192 ≤ length w → Only (λ s. ltb s 32) w w1 → w2 ≡ cond clears (cleared w1) w1
+      → cond clears w2 (workspace (answer P c x) w2) ≡ workspace (answer P c x) w
+  workspace-passed clears w w1 w2 t l room only v = rw (answer-passed P c x q h t) (late-where clears x w w1 w2 l v (cleared-only w w1 room only))

@@ -2,7 +2,7 @@
 use Prim.Native.Nat.{ℕ, _+_, _*_, _<_, _≤_}
 use native.Mathlib.Nat.{add-mul}
 use mathlib.Core.Path.{_≡_, refl, sym, ap, _∙_}
-use mathlib.Core.Bool.{Bool, true}
+use mathlib.Core.Bool.{Bool, true, cond}
 use mathlib.Core.List.{List}
 use native.Mathlib.Omega.{arith}
 use lib.Dec.{ltb}
@@ -22,7 +22,7 @@ use Rattle.arithmetic.proofs.MatrixLaws.{square-le, length-grid, row-end}
 use Rattle.arithmetic.proofs.Slots.{slot-store, only-store, only-trans, only-more, cleared-only}
 use Rattle.arithmetic.proofs.States.{among, member-among}
 use Rattle.arithmetic.proofs.AnswerLaws.{answer-passed}
-use Rattle.arithmetic.proofs.OutputLaws.{Late, late-workspace, exit-done, exit-refused, exit-as}
+use Rattle.arithmetic.proofs.OutputLaws.{Late, late-where, exit-done, exit-refused, exit-as}
 use Rattle.functions.specs.Exponential.{block, quarter}
 use Rattle.functions.specs.Powers.{expM}
 use Rattle.functions.specs.Derivatives.{frechetExpM, blockQuarters}
@@ -105,12 +105,12 @@ frechet-written f n ss a e first first′ second second′ w w1 w2 given o r m e
 
 module _ (p : Profile) (c : Call) (q : Question) (h : found q ≡ asked p c) (clears : Bool) (o : Outcome) (x : Result Both) (first second w : List Float) where
   -- no question refuses: the outputs are written, and the workspace is cleared where `clears` is true
-  pub two-written : (first′ second′ w1 w2 : List Float) → q ≡ Passed → Late x → 8192 ≤ length w → Written x o first first′ second second′ w w1 → (clears ≡ true → w2 ≡ cleared w1)
+  pub two-written : (first′ second′ w1 w2 : List Float) → q ≡ Passed → Late x → 8192 ≤ length w → Written x o first first′ second second′ w w1 → w2 ≡ cond clears (cleared w1) w1
       → TwoOutputsWith clears (answer p c x) o first first′ second second′ w w2
   two-written first′ second′ w1 w2 e l room W v =
       rw (answer-passed p c x q h e) (record {
         outcome = W .outcome;
         value = W .value;
         derivative = W .derivative;
-        workspace = λ t. v t ∙ cleared-only w w1 room (W .only) ∙ sym (late-workspace x w l);
+        workspace = late-where clears x w w1 w2 l v (cleared-only w w1 room (W .only));
       })

@@ -1,6 +1,6 @@
 // The condition of the exponential at A, in the one direction I / root of n.
 ghost use mathlib.Core.Path.{_≡_};
-ghost use mathlib.Core.Bool.{cond, true};
+ghost use mathlib.Core.Bool.{cond};
 ghost use Prim.Native.Nat.{_*_, _+_, _≤_};
 ghost use lib.Dec.{ltb};
 ghost use lib.ListN.{length};
@@ -146,7 +146,7 @@ pub fn cond_expm_with(
     clears: bool,
 ) -> ConditionAnswer
     ensures { λ r. ⌜ Conditioned (condExpm binary64 rows columns (now (a .entry)) (length (now (w .entry)))) (r .outcome) (r .ratio) (r .derivative) (r .exponential) ⌝ }
-    ensures { λ _. ⌜ (clears ≡ true → now (w .exit) ≡ workspace (condExpm binary64 rows columns (now (a .entry)) (length (now (w .entry)))) (now (w .entry))) ⌝ }
+    ensures { λ _. ⌜ cond clears (now (w .exit)) (workspace (condExpm binary64 rows columns (now (a .entry)) (length (now (w .entry)))) (now (w .exit))) ≡ workspace (condExpm binary64 rows columns (now (a .entry)) (length (now (w .entry)))) (now (w .entry)) ⌝ }
 {
     match ask_cond_expm(rows, columns, a, w.len()) {
         Question::No(why) => refused_condition(why),

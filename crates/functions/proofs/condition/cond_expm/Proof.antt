@@ -1,5 +1,4 @@
 -- `cond_expm` meets its contract. Assumes nothing.
-use mathlib.Core.Path.{refl}
 use borrow.Author.Needs.{needs}
 use Rattle.functions.proofs.condition.cond_expm.Statement.{statement}
 use Rattle.functions.proofs.condition.cond_expm.Tie as tie
@@ -11,7 +10,7 @@ same-length : tie.Need-same-length
 same-length c = search needs
 
 returns : tie.Need-returns
-returns c = (c .before .before .cond-expm-with .ensures .0, c .before .before .cond-expm-with .ensures .1 refl)
+returns c = (c .before .before .cond-expm-with .ensures .0, c .before .before .cond-expm-with .ensures .1)
 
 pub cond-expm-spec : {M : Type 1} → statement M
 cond-expm-spec = tie.close (tie.spec cond-expm-with-requires same-length returns)

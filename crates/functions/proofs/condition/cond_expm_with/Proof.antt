@@ -9,6 +9,7 @@ use lib.Ieee.{binary64}
 use Rattle.arithmetic.specs.Questions.{unary, anywhere, ofCondExpm}
 use Rattle.arithmetic.proofs.QuestionLaws.{accepted}
 use Rattle.arithmetic.proofs.AnswerLaws.{workspace-no}
+use Rattle.arithmetic.proofs.OutputLaws.{kept-where}
 use Rattle.functions.specs.Derivatives.{condExpM}
 use Rattle.functions.specs.Calls.{condExpm}
 use Rattle.functions.proofs.ConditionLaws.{condition-refused, condition-passed, workspace-passed, late-condExpM}
@@ -54,7 +55,7 @@ returns c =
     let x = condExpM binary64 (a .rows) (now (a .a)) in
     let t = c .before .before .why .given .1 in (
       condition-refused ofCondExpm call (asked .result) (asked .ensures) (r .result .outcome) x (r .result .ratio) (r .result .derivative) (r .result .exponential) _ t (r .ensures .0) (r .ensures .1) (r .ensures .2) (r .ensures .3),
-      λ _. sym (workspace-no ofCondExpm call x (asked .result) (asked .ensures) _ t (now (a .w))),
+      kept-where (a .clears) (condExpm binary64 (a .rows) (a .columns) (now (a .a)) (length (now (a .w)))) (now (a .w)) (sym (workspace-no ofCondExpm call x (asked .result) (asked .ensures) _ t (now (a .w)))),
     )
 
 same-length : tie.Need-same-length
@@ -71,7 +72,7 @@ returns-2 c =
     let x = condExpM binary64 (a .rows) (now (a .a)) in
     let t = c .before .before .before .before .before .before .before .before .enum-told .given .1 in (
       condition-passed ofCondExpm call (asked .result) (asked .ensures) (r .result .outcome) x (r .result .ratio) (r .result .derivative) (r .result .exponential) t (r .ensures .0),
-      λ z. workspace-passed ofCondExpm call (asked .result) (asked .ensures) (r .result .outcome) x (r .result .ratio) (r .result .derivative) (r .result .exponential) (now (a .w)) (r .last .1 .1 .0) (c .before .before .clear-where .last .0) t (late-condExpM binary64 (a .rows) (now (a .a))) (s .room) (r .ensures .1) (c .before .before .clear-where .ensures z),
+      workspace-passed ofCondExpm call (asked .result) (asked .ensures) (r .result .outcome) x (r .result .ratio) (r .result .derivative) (r .result .exponential) (a .clears) (now (a .w)) (r .last .1 .1 .0) (c .before .before .clear-where .last .0) t (late-condExpM binary64 (a .rows) (now (a .a))) (s .room) (r .ensures .1) (c .before .before .clear-where .ensures),
     )
 
 pub cond-expm-with-spec : {M : Type 1} → statement M
