@@ -18,8 +18,9 @@ use arithmetic::answer::Outcome;
 use arithmetic::answer::Refusal;
 use arithmetic::float::of_small;
 use arithmetic::float::power_of_two;
-use arithmetic::norm::frobenius;
 use arithmetic::norm::norm_1_minus_identity;
+use arithmetic::norm::sums_of_squares;
+use arithmetic::root::sqrt;
 use arithmetic::workspace::add;
 use arithmetic::workspace::copy;
 use arithmetic::workspace::minus_identity;
@@ -94,7 +95,8 @@ fn is_last(w: &[f64], n: usize) -> bool
     requires { ⌜ Room n (now w) ⌝ }
     ensures { λ r. ⌜ r ≡ le (frobeniusOf binary64 n (slot n (now (w .entry)) 3)) (mul binary64 (epsilon binary64) (frobeniusOf binary64 n (slot n (now (w .entry)) 2))) ⌝ }
 {
-    frobenius(w, 3, n) <= 2.220446049250313e-16 * frobenius(w, 2, n)
+    let sums = sums_of_squares(w, 768, 512, n * n);
+    sqrt(sums.first) <= 2.220446049250313e-16 * sqrt(sums.second)
 }
 
 // The next power's term, which is term k + 2, is added. Whether it is the last.
