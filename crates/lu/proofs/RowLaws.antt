@@ -90,6 +90,10 @@ unfolding eachColumn
 each-same n m g b size same =
     grid-is n m _ b size (λ r c u v. sym (ap (λ (a : List Float). item a r) (same (column n m b c) (length-column n m b c)) ∙ item-column n m b c r u))
 
+pub each-cong : (n m : ℕ) (g h : List Float → List Float) (b : List Float) → ((l : List Float) → length l ≡ n → g l ≡ h l) → eachColumn n m g b ≡ eachColumn n m h b
+unfolding eachColumn
+each-cong n m g h b same = grid-cong n m _ _ (λ r c u v. ap (λ (a : List Float). item a r) (same (column n m b c) (length-column n m b c)))
+
 -- a matrix of one column is that column
 pub each-one : (w : List Float) (x n : ℕ) (g : List Float → List Float) → length (g (part w x n)) ≡ n → put w x (g (part w x n)) ≡ put w x (eachColumn n 1 g (part w x (n * 1)))
 unfolding eachColumn column part at
@@ -182,7 +186,7 @@ module _ (w T : List Float) (x n m i : ℕ) (size : length T ≡ m) (hi : i < n)
   row-after q h = getD-put-after w (x + i * m) T q nan (omega (arith, size, row-end i n m hi))
 
 -- entry (r, c) of the matrix at x, as an element of its column
-item-part : (w : List Float) (x n m r c : ℕ) → r < n → c < m → item w (x + (r * m + c)) ≡ item (column n m (part w x (n * m)) c) r
+pub item-part : (w : List Float) (x n m r c : ℕ) → r < n → c < m → item w (x + (r * m + c)) ≡ item (column n m (part w x (n * m)) c) r
 item-part w x n m r c u v = sym (item-column n m (part w x (n * m)) c r u ∙ at-part w x n m r c u v)
 
 -- the same as the row kernels read it

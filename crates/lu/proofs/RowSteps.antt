@@ -1,33 +1,19 @@
--- Laws of the substitutions by rows: what a row kernel does to every column, and one turn of each loop. w₀ is the workspace before the loop, w in the
--- turn and w1 after it; F' is what is read of the factors F in the turn. Assumes nothing.
+-- Laws of the loops over a right-hand matrix in a workspace: a turn of each loop over one column, and of the swaps. w₀ is the workspace before the loop,
+-- w in the turn and w1 after it. Assumes nothing.
 use Prim.Native.Nat.{ℕ, _+_, _-_, _*_, _≤_, _<_}
 use mathlib.Core.Path.{_≡_, refl, sym, ap, _∙_}
 use mathlib.Core.List.{List}
-use mathlib.Core.Logic.{_⊎_}
 use native.Mathlib.Omega.{arith}
 use lib.ListN.{length, getD, set, length-set}
 use lib.Ieee.{Float, nan, Format, sub, mul, div}
-use Rattle.arithmetic.specs.Matrix.{tab, at, item, part, patch, put, Apart}
+use Rattle.arithmetic.specs.Matrix.{at, item, part, patch, put, Apart}
 use Rattle.arithmetic.proofs.PatchLaws.{length-patch}
-use Rattle.arithmetic.proofs.PartLaws.{length-part, getD-part, getD-put-in, part-put-apart}
+use Rattle.arithmetic.proofs.PartLaws.{length-part, getD-part, getD-put-in, put-part, put-put, part-put, part-put-apart}
 use Rattle.lu.specs.Solve.{swapItems, permuted, forward, lowered, backStep, back, solved, solvedMatrix, eachColumn}
-use Rattle.lu.proofs.SolveLaws.{permuted-more, length-permuted, lowered-kept, lowered-more, forward-step, length-forward, forward-turn, back-step, length-back, back-turn}
-use Rattle.lu.proofs.RowLaws.{set-put-in, each-turn, factors-kept, row-item, set-row}
+use Rattle.lu.proofs.SolveLaws.{permuted-more, length-permuted, lowered-more, forward-step, length-forward, forward-turn, back-step, length-backStep, length-back, back-turn}
+use Rattle.lu.proofs.RowLaws.{set-put-in, each-turn, factors-kept}
 
--- ---- one row
-
-module _ (f : Format) (w w1 : List Float) (x n m : ℕ) (room : x + n * m ≤ length w) where
-  pub lower-row-is : (F : List Float) (i k : ℕ) (v : Float) → i < n → k < n → v ≡ at n F i k
-      → w1 ≡ put w (x + i * m) (tab m (λ j. sub f (item w (x + i * m + j)) (mul f v (item w (x + k * m + j)))))
-      → w1 ≡ put w x (eachColumn n m (λ l. set l i (lowered f n F k l i)) (part w x (n * m)))
-  lower-row-is F i k v hi hk ev e =
-      e ∙ set-row w x n m i (λ l. lowered f n F k l i) _ hi room (λ c s t. sub f (row-item w x n m i c hi s t) (mul f (ev t) (row-item w x n m k c hk s t)))
-
-  pub divide-row-is : (k : ℕ) (d q : Float) → k < n → d ≡ q → w1 ≡ put w (x + k * m) (tab m (λ j. div f (item w (x + k * m + j)) d))
-      → w1 ≡ put w x (eachColumn n m (λ l. set l k (div f (item l k) q)) (part w x (n * m)))
-  divide-row-is k d q hk eq e = e ∙ set-row w x n m k (λ l. div f (item l k) q) _ hk room (λ c s t. div f (row-item w x n m k c hk s t) (eq t))
-
--- ---- a turn of each loop
+-- ---- the swaps
 
 module _ (x n m : ℕ) (w₀ w w1 : List Float) (room : x + n * m ≤ length w₀) where
   pub permute-rows-turn : (ps : List ℕ) (k : ℕ) → w ≡ put w₀ x (eachColumn n m (λ l. permuted n ps l k) (part w₀ x (n * m)))
@@ -37,45 +23,68 @@ module _ (x n m : ℕ) (w₀ w w1 : List Float) (room : x + n * m ≤ length w�
       each-turn x n m (λ l. permuted n ps l k) w₀ w room e (swapItems n k (getD ps k 0)) (λ l. permuted n ps l (k + 1)) w1
       (λ l s. length-permuted n ps l k s) (λ l s. permuted-more n ps l k) e1
 
-  module _ (f : Format) (F F' : List Float) (same : F' ≡ F) where
-    pub lower-turn : (k lo i : ℕ) → k < n → lo ≤ i → i < n → (i ≤ k) ⊎ (k < lo) → w ≡ put w₀ x (eachColumn n m (λ l. patch lo i (lowered f n F k l) l) (part w₀ x (n * m)))
-        → w1 ≡ put w x (eachColumn n m (λ l. set l i (lowered f n F' k l i)) (part w x (n * m)))
-        → w1 ≡ put w₀ x (eachColumn n m (λ l. patch lo (i + 1) (lowered f n F k l) l) (part w₀ x (n * m)))
-    lower-turn k lo i hk from hi apart e e1 =
-        each-turn x n m (λ l. patch lo i (lowered f n F k l) l) w₀ w room e (λ l. set l i (lowered f n F' k l i)) (λ l. patch lo (i + 1) (lowered f n F k l) l) w1
-        (λ l s. length-patch lo i (lowered f n F k l) l ∙ s)
-        (λ l s.
-        lowered-more f n F k lo i l from (patch lo i (lowered f n F k l) l) (at n F' i k) (item (patch lo i (lowered f n F k l) l) k)
-        (omega arith) refl (ap (λ (a : List Float). at n a i k) same) (lowered-kept f n F k lo i l from (omega arith) apart)) e1
+-- ---- one column
 
-    pub forward-rows-turn : (k : ℕ) → k < n → w ≡ put w₀ x (eachColumn n m (λ l. forward f n F l k) (part w₀ x (n * m)))
-        → w1 ≡ put w x (eachColumn n m (λ l. patch (k + 1) n (lowered f n F' k l) l) (part w x (n * m)))
-        → w1 ≡ put w₀ x (eachColumn n m (λ l. forward f n F l (k + 1)) (part w₀ x (n * m)))
-    forward-rows-turn k hk e e1 =
-        each-turn x n m (λ l. forward f n F l k) w₀ w room e (λ l. patch (k + 1) n (lowered f n F' k l) l) (λ l. forward f n F l (k + 1)) w1
-        (λ l s. length-forward f n F l k s)
-        (λ l s.
-        forward-turn f n F l (forward f n F l k) _ k refl
-        (ap (λ (a : List Float). patch (k + 1) n (lowered f n a k (forward f n F l k)) (forward f n F l k)) same ∙ forward-step f n F k (forward f n F l k) (length-forward f n F l k s) hk)) e1
+-- M is the column on the way, and N after one step more
+column-turn : (x n : ℕ) (w₀ w w1 M N : List Float) (g : List Float → List Float) → x + n ≤ length w₀ → length M ≡ n → length N ≡ n → w ≡ put w₀ x M → w1 ≡ put w x (g (part w x n)) → g M ≡ N
+    → w1 ≡ put w₀ x N
+column-turn x n w₀ w w1 M N g room size long e e1 turn =
+    e1
+    ∙ (λ i. put (e i) x (g ((ap (λ (v : List Float). part v x n) e ∙ part-put w₀ x M n size room) i)))
+    ∙ ap (put (put w₀ x M) x) turn
+    ∙ put-put w₀ x M N (size ∙ sym long) (omega arith)
 
-    -- the division, and the rows above
-    pub back-step-rows-is : (k : ℕ) → k < n → w ≡ put w₀ x (eachColumn n m (λ l. set l k (div f (item l k) (at n F k k))) (part w₀ x (n * m)))
-        → w1 ≡ put w x (eachColumn n m (λ l. patch 0 k (lowered f n F' k l) l) (part w x (n * m)))
-        → w1 ≡ put w₀ x (eachColumn n m (backStep f n F k) (part w₀ x (n * m)))
-    back-step-rows-is k hk e e1 =
-        each-turn x n m (λ l. set l k (div f (item l k) (at n F k k))) w₀ w room e (λ l. patch 0 k (lowered f n F' k l) l) (backStep f n F k) w1
-        (λ l s. length-set l k (div f (item l k) (at n F k k)) ∙ s)
-        (λ l s. rw same (back-step f n F k l (set l k (div f (item l k) (at n F k k))) s hk refl)) e1
+column-kept : (o x n : ℕ) (w₀ w M : List Float) → Apart o (n * n) x n → length M ≡ n → w ≡ put w₀ x M → part w o (n * n) ≡ part w₀ o (n * n)
+column-kept o x n w₀ w M apart size e = ap (λ (v : List Float). part v o (n * n)) e ∙ part-put-apart w₀ x n M o (n * n) apart (omega arith)
 
-    pub back-rows-turn : (k : ℕ) → 0 < k → k ≤ n → w ≡ put w₀ x (eachColumn n m (λ l. back f n F l (n - k)) (part w₀ x (n * m)))
-        → w1 ≡ put w x (eachColumn n m (backStep f n F' (k - 1)) (part w x (n * m)))
-        → w1 ≡ put w₀ x (eachColumn n m (λ l. back f n F l (n - (k - 1))) (part w₀ x (n * m)))
-    back-rows-turn k hk hn e e1 =
-        each-turn x n m (λ l. back f n F l (n - k)) w₀ w room e (backStep f n F' (k - 1)) (λ l. back f n F l (n - (k - 1))) w1
-        (λ l s. length-back f n F l (n - k) s)
-        (λ l s. back-turn f n F l (back f n F l (n - k)) _ k hk hn refl (ap (λ (a : List Float). backStep f n a (k - 1) (back f n F l (n - k))) same)) e1
+module _ (f : Format) (o x n : ℕ) (w₀ w w1 : List Float) (room : x + n ≤ length w₀) (apart : Apart o (n * n) x n) where
+  abbrev F₀ : List Float
+  F₀ = part w₀ o (n * n)
 
--- one column: the factors are at o, v is the number in row k
+  abbrev l₀ : List Float
+  l₀ = part w₀ x n
+
+  pub forward-column-turn : (k : ℕ) → k < n → w ≡ put w₀ x (forward f n F₀ l₀ k) → w1 ≡ put w x (patch (k + 1) n (lowered f n (part w o (n * n)) k (part w x n)) (part w x n))
+      → w1 ≡ put w₀ x (forward f n F₀ l₀ (k + 1))
+  forward-column-turn k hk e e1 =
+      let size = length-forward f n F₀ l₀ k (length-part w₀ x n) in
+      column-turn x n w₀ w w1 (forward f n F₀ l₀ k) (forward f n F₀ l₀ (k + 1)) (λ l. patch (k + 1) n (lowered f n (part w o (n * n)) k l) l) room size
+      (length-forward f n F₀ l₀ (k + 1) (length-part w₀ x n)) e e1
+      (forward-turn f n F₀ l₀ (forward f n F₀ l₀ k) _ k refl
+      (ap (λ (a : List Float). patch (k + 1) n (lowered f n a k (forward f n F₀ l₀ k)) (forward f n F₀ l₀ k)) (column-kept o x n w₀ w (forward f n F₀ l₀ k) apart size e)
+      ∙ forward-step f n F₀ k (forward f n F₀ l₀ k) size hk))
+
+  -- the division by d, and the rows above
+  pub back-column-step-is : (k : ℕ) (d : Float) → k < n → d ≡ at n F₀ k k → w ≡ set w₀ (x + k) (div f (item w₀ (x + k)) d)
+      → w1 ≡ put w x (patch 0 k (lowered f n (part w o (n * n)) k (part w x n)) (part w x n))
+      → w1 ≡ put w₀ x (backStep f n F₀ k l₀)
+  back-column-step-is k d hk ed e e1 =
+      column-turn x n w₀ w w1 M (backStep f n F₀ k l₀) (λ l. patch 0 k (lowered f n (part w o (n * n)) k l) l) room size (length-backStep f n F₀ k l₀) e' e1
+      (ap (λ (a : List Float). patch 0 k (lowered f n a k M) M) (column-kept o x n w₀ w M apart size e')
+      ∙ back-step f n F₀ k l₀ M (length-part w₀ x n) hk refl)
+    where
+      M : List Float
+      M = set l₀ k (div f (item l₀ k) (at n F₀ k k))
+
+      size : length M ≡ n
+      size = length-set l₀ k (div f (item l₀ k) (at n F₀ k k)) ∙ length-part w₀ x n
+
+      e' : w ≡ put w₀ x M
+      e' =
+          e
+          ∙ (λ t. set (sym (put-part w₀ x n room) t) (x + k) (div f (sym (getD-part w₀ x n k hk) t) (ed t)))
+          ∙ set-put-in w₀ x l₀ k (div f (item l₀ k) (at n F₀ k k)) (omega (arith, length-part w₀ x n))
+
+  pub back-column-turn : (k : ℕ) → 0 < k → k ≤ n → w ≡ put w₀ x (back f n F₀ l₀ (n - k)) → w1 ≡ put w x (backStep f n (part w o (n * n)) (k - 1) (part w x n))
+      → w1 ≡ put w₀ x (back f n F₀ l₀ (n - (k - 1)))
+  back-column-turn k hk hn e e1 =
+      let size = length-back f n F₀ l₀ (n - k) (length-part w₀ x n) in
+      column-turn x n w₀ w w1 (back f n F₀ l₀ (n - k)) (back f n F₀ l₀ (n - (k - 1))) (backStep f n (part w o (n * n)) (k - 1)) room size
+      (length-back f n F₀ l₀ (n - (k - 1)) (length-part w₀ x n)) e e1
+      (back-turn f n F₀ l₀ (back f n F₀ l₀ (n - k)) _ k hk hn refl
+      (ap (λ (a : List Float). backStep f n a (k - 1) (back f n F₀ l₀ (n - k))) (column-kept o x n w₀ w (back f n F₀ l₀ (n - k)) apart size e)))
+
+-- the factors are at o, v is the number in row k
 pub lower-column-turn : (f : Format) (o x n k lo i : ℕ) (w₀ w : List Float) (q v : Float) → k < n → lo ≤ i → i < n → x + n ≤ length w₀ → Apart o (n * n) x n
     → w ≡ put w₀ x (patch lo i (lowered f n (part w₀ o (n * n)) k (part w₀ x n)) (part w₀ x n)) → q ≡ at n (part w o (n * n)) i k → v ≡ item w₀ (x + k)
     → set w (x + i) (sub f (item w (x + i)) (mul f q v)) ≡ put w₀ x (patch lo (i + 1) (lowered f n (part w₀ o (n * n)) k (part w₀ x n)) (part w₀ x n))

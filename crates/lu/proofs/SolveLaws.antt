@@ -4,7 +4,7 @@ use Prim.Native.Nat.{ℕ, zero, suc, _+_, _-_, _≤_, _<_}
 use mathlib.Core.Path.{_≡_, refl, ap, _∙_}
 use mathlib.Core.Bool.{Bool, true, false, cond}
 use mathlib.Core.List.{List}
-use mathlib.Core.Logic.{_⊎_, ⊎-elim}
+use mathlib.Core.Logic.{⊎-elim}
 use native.Mathlib.Omega.{arith}
 use native.Mathlib.Numerals.{add-one}
 use lib.Dec.{eqb}
@@ -48,13 +48,9 @@ unfolding permuted swapItems
 length-permuted n ps x zero h = h
 length-permuted n ps x (suc k) h = length-tab n _
 
--- ---- the rows from lo up to i, less their factors in column k times row k, which is none of them
+-- ---- the rows from lo up to i, less their factors in column k times row k
 
 module _ (f : Format) (n : ℕ) (F : List Float) (k lo i : ℕ) (l : List Float) (from : lo ≤ i) where
-  pub lowered-kept : k < length l → (i ≤ k) ⊎ (k < lo) → item (patch lo i (lowered f n F k l) l) k ≡ item l k
-  lowered-kept hk apart =
-      ⊎-elim (λ (h : i ≤ k). patch-above lo i (lowered f n F k l) l k nan (omega arith) h hk) (λ (h : k < lo). patch-below lo i (lowered f n F k l) l k nan h hk) apart
-
   pub lowered-more : (y : List Float) (v z : Float) → i < length l → y ≡ patch lo i (lowered f n F k l) l → v ≡ at n F i k → z ≡ item l k
       → set y i (sub f (item y i) (mul f v z)) ≡ patch lo (i + 1) (lowered f n F k l) l
   lowered-more y v z hi e ev ez =

@@ -55,6 +55,23 @@ unfoldable pub back : Format → ℕ → List Float → List Float → ℕ → L
 back f n F x zero = x
 back f n F x (suc d) = backStep f n F (n - suc d) (back f n F x d)
 
+-- ---- a row at a time
+
+-- v less a(0) * b(0), a(1) * b(1), .., a(k - 1) * b(k - 1), in this order
+unfoldable pub low : Format → Float → (ℕ → Float) → (ℕ → Float) → ℕ → Float
+low f v a b zero = v
+low f v a b (suc k) = sub f (low f v a b k) (mul f (a k) (b k))
+
+-- number j of the row at y, less the k numbers at q times numbers j of the first k rows, of m numbers each, at x
+unfoldable pub lowerEntry : Format → ℕ → ℕ → List Float → ℕ → ℕ → ℕ → ℕ → Float
+unfolding low
+lowerEntry f k m w q x y j = low f (item w (y + j)) (λ i. item w (q + i)) (λ i. item w (x + (i * m + j))) k
+
+-- number j of the row at y, less the k numbers after g times numbers j of the k rows after it, the last first; then divided by the number at g
+unfoldable pub upperEntry : Format → ℕ → ℕ → List Float → ℕ → ℕ → ℕ → Float
+unfolding low
+upperEntry f k m w g y j = div f (low f (item w (y + j)) (λ d. item w (g + (k - d))) (λ d. item w (y + ((k - d) * m + j))) k) (item w g)
+
 -- ---- the solution
 
 unfoldable pub solved : Format → ℕ → List Float → List ℕ → List Float → List Float

@@ -1,38 +1,11 @@
 // The substitutions for all right-hand columns at once, by the rows of the right-hand matrix. It has n rows and m columns and stands in w from x on;
 // the factors, a matrix of order n, stand at f.
 ghost use mathlib.Core.Path.{_≡_};
-ghost use mathlib.Core.Bool.{false};
-ghost use mathlib.Core.Logic.{_⊎_};
 ghost use Prim.Native.Nat.{ℕ, _+_, _*_, _<_, _≤_};
-ghost use lib.Dec.{eqb};
-ghost use lib.ListN.{length, getD, set};
-ghost use lib.Ieee.{binary64, sub, mul, div};
-ghost use Rattle.arithmetic.specs.Matrix.{tab, at, item, part, patch, put, Apart};
-ghost use Rattle.lu.specs.Solve.{swapItems, permuted, lowered, backStep, eachColumn, forward as forwardOf, back as backOf};
-
-// The m numbers at y become themselves less v times the m numbers at x.
-pub fn subtract_multiple(w: &mut [f64], x: usize, y: usize, v: f64, m: usize)
-    requires { ⌜ (x + m ≤ length (now w)) × (y + m ≤ length (now w)) × Apart x m y m ⌝ }
-    ensures { λ _. ⌜ now (w .exit) ≡ put (now (w .entry)) y (tab m (λ j. sub binary64 (item (now (w .entry)) (y + j)) (mul binary64 v (item (now (w .entry)) (x + j))))) ⌝ }
-{
-    let mut j = 0;
-    while j < m {
-        w[y + j] = w[y + j] - v * w[x + j];
-        j += 1;
-    }
-}
-
-// The m numbers at y are divided by d.
-pub fn divide_row(w: &mut [f64], y: usize, d: f64, m: usize)
-    requires { ⌜ y + m ≤ length (now w) ⌝ }
-    ensures { λ _. ⌜ now (w .exit) ≡ put (now (w .entry)) y (tab m (λ j. div binary64 (item (now (w .entry)) (y + j)) d)) ⌝ }
-{
-    let mut j = 0;
-    while j < m {
-        w[y + j] = w[y + j] / d;
-        j += 1;
-    }
-}
+ghost use lib.ListN.{length, getD};
+ghost use lib.Ieee.{binary64};
+ghost use Rattle.arithmetic.specs.Matrix.{tab, at, part, patch, put, Apart};
+ghost use Rattle.lu.specs.Solve.{swapItems, permuted, lowered, lowerEntry, upperEntry, backStep, eachColumn, forward as forwardOf, back as backOf};
 
 // The m numbers at x and those at y change places.
 pub fn swap_parts(w: &mut [f64], x: usize, y: usize, m: usize)
@@ -79,38 +52,7 @@ pub fn permute_rows(w: &mut [f64], x: usize, n: usize, m: usize, pivots: &[usize
     }
 }
 
-// Row i, less its factor in column k times row k.
-fn lower_row(w: &mut [f64], f: usize, x: usize, n: usize, m: usize, i: usize, k: usize)
-    requires { ⌜ (i < n) × (k < n) × (eqb i k ≡ false) × (f + n * n ≤ length (now w)) × (x + n * m ≤ length (now w)) ⌝ }
-    ensures { λ _. ⌜ now (w .exit) ≡ put (now (w .entry)) x (eachColumn n m (λ l. set l i (lowered binary64 n (part (now (w .entry)) f (n * n)) k l i)) (part (now (w .entry)) x (n * m))) ⌝ }
-{
-    let v = factor_at(w, f, n, i, k);
-    subtract_multiple(w, x + k * m, x + i * m, v, m);
-}
-
-// The rows from lo up to hi, less their factors in column k times row k.
-fn lower_each_row(
-    w: &mut [f64],
-    f: usize,
-    x: usize,
-    n: usize,
-    m: usize,
-    k: usize,
-    lo: usize,
-    hi: usize,
-)
-    requires { ⌜ (k < n) × (lo ≤ hi) × (hi ≤ n) × ((hi ≤ k) ⊎ (k < lo)) ⌝ }
-    requires { ⌜ (f + n * n ≤ length (now w)) × (x + n * m ≤ length (now w)) × Apart f (n * n) x (n * m) ⌝ }
-    ensures { λ _. ⌜ now (w .exit) ≡ put (now (w .entry)) x (eachColumn n m (λ l. patch lo hi (lowered binary64 n (part (now (w .entry)) f (n * n)) k l) l) (part (now (w .entry)) x (n * m))) ⌝ }
-{
-    let mut i = lo;
-    while i < hi {
-        lower_row(w, f, x, n, m, i, k);
-        i += 1;
-    }
-}
-
-// The same where there is one column.
+// One right-hand column: its rows from lo up to hi, less their factors in column k times row k.
 fn lower_column(w: &mut [f64], f: usize, x: usize, n: usize, k: usize, lo: usize, hi: usize)
     requires { ⌜ (k < n) × (lo ≤ hi) × (hi ≤ n) ⌝ }
     requires { ⌜ (f + n * n ≤ length (now w)) × (x + n ≤ length (now w)) × Apart f (n * n) x n ⌝ }
@@ -124,58 +66,230 @@ fn lower_column(w: &mut [f64], f: usize, x: usize, n: usize, k: usize, lo: usize
     }
 }
 
-// The same: a single column has a loop of its own, which is faster.
-pub fn lower_rows(
-    w: &mut [f64],
-    f: usize,
-    x: usize,
-    n: usize,
-    m: usize,
-    k: usize,
-    lo: usize,
-    hi: usize,
-)
-    requires { ⌜ (k < n) × (lo ≤ hi) × (hi ≤ n) × ((hi ≤ k) ⊎ (k < lo)) ⌝ }
-    requires { ⌜ (f + n * n ≤ length (now w)) × (x + n * m ≤ length (now w)) × Apart f (n * n) x (n * m) ⌝ }
-    ensures { λ _. ⌜ now (w .exit) ≡ put (now (w .entry)) x (eachColumn n m (λ l. patch lo hi (lowered binary64 n (part (now (w .entry)) f (n * n)) k l) l) (part (now (w .entry)) x (n * m))) ⌝ }
-{
-    if m == 1 {
-        lower_column(w, f, x, n, k, lo, hi);
-    } else {
-        lower_each_row(w, f, x, n, m, k, lo, hi);
-    }
-}
-
-// The forward substitution: L has a unit diagonal.
-pub fn forward_rows(w: &mut [f64], f: usize, x: usize, n: usize, m: usize)
-    requires { ⌜ (f + n * n ≤ length (now w)) × (x + n * m ≤ length (now w)) × Apart f (n * n) x (n * m) ⌝ }
-    ensures { λ _. ⌜ now (w .exit) ≡ put (now (w .entry)) x (eachColumn n m (λ l. forwardOf binary64 n (part (now (w .entry)) f (n * n)) l n) (part (now (w .entry)) x (n * m))) ⌝ }
+// The forward substitution of one column.
+fn forward_column(w: &mut [f64], f: usize, x: usize, n: usize)
+    requires { ⌜ (f + n * n ≤ length (now w)) × (x + n ≤ length (now w)) × Apart f (n * n) x n ⌝ }
+    ensures { λ _. ⌜ now (w .exit) ≡ put (now (w .entry)) x (forwardOf binary64 n (part (now (w .entry)) f (n * n)) (part (now (w .entry)) x n) n) ⌝ }
 {
     let mut k = 0;
     while k < n {
-        lower_rows(w, f, x, n, m, k, k + 1, n);
+        lower_column(w, f, x, n, k, k + 1, n);
         k += 1;
     }
 }
 
-// One column of the factors in the back substitution.
-pub fn back_step_rows(w: &mut [f64], f: usize, x: usize, n: usize, m: usize, k: usize)
-    requires { ⌜ (k < n) × (f + n * n ≤ length (now w)) × (x + n * m ≤ length (now w)) × Apart f (n * n) x (n * m) ⌝ }
-    ensures { λ _. ⌜ now (w .exit) ≡ put (now (w .entry)) x (eachColumn n m (backStep binary64 n (part (now (w .entry)) f (n * n)) k) (part (now (w .entry)) x (n * m))) ⌝ }
+// One column of the factors in the back substitution of one column.
+fn back_column_step(w: &mut [f64], f: usize, x: usize, n: usize, k: usize)
+    requires { ⌜ (k < n) × (f + n * n ≤ length (now w)) × (x + n ≤ length (now w)) × Apart f (n * n) x n ⌝ }
+    ensures { λ _. ⌜ now (w .exit) ≡ put (now (w .entry)) x (backStep binary64 n (part (now (w .entry)) f (n * n)) k (part (now (w .entry)) x n)) ⌝ }
 {
-    let d = factor_at(w, f, n, k, k);
-    divide_row(w, x + k * m, d, m);
-    lower_rows(w, f, x, n, m, k, 0, k);
+    w[x + k] = w[x + k] / factor_at(w, f, n, k, k);
+    lower_column(w, f, x, n, k, 0, k);
 }
 
-// The back substitution.
-pub fn back_rows(w: &mut [f64], f: usize, x: usize, n: usize, m: usize)
-    requires { ⌜ (f + n * n ≤ length (now w)) × (x + n * m ≤ length (now w)) × Apart f (n * n) x (n * m) ⌝ }
-    ensures { λ _. ⌜ now (w .exit) ≡ put (now (w .entry)) x (eachColumn n m (λ l. backOf binary64 n (part (now (w .entry)) f (n * n)) l n) (part (now (w .entry)) x (n * m))) ⌝ }
+// The back substitution of one column.
+fn back_column(w: &mut [f64], f: usize, x: usize, n: usize)
+    requires { ⌜ (f + n * n ≤ length (now w)) × (x + n ≤ length (now w)) × Apart f (n * n) x n ⌝ }
+    ensures { λ _. ⌜ now (w .exit) ≡ put (now (w .entry)) x (backOf binary64 n (part (now (w .entry)) f (n * n)) (part (now (w .entry)) x n) n) ⌝ }
 {
     let mut k = n;
     while 0 < k {
         k -= 1;
-        back_step_rows(w, f, x, n, m, k);
+        back_column_step(w, f, x, n, k);
+    }
+}
+
+// The four numbers at y + j and on: less the k numbers at q times the first k rows, of m numbers each, at x, in the columns from j on.
+fn lower_four(w: &mut [f64], q: usize, x: usize, y: usize, j: usize, k: usize, m: usize)
+    requires { ⌜ (j + 4 ≤ m) × (q + k ≤ length (now w)) × (x + k * m ≤ length (now w)) × (y + m ≤ length (now w)) ⌝ }
+    ensures { λ _. ⌜ now (w .exit) ≡ put (now (w .entry)) (y + j) (tab 4 (λ t. lowerEntry binary64 k m (now (w .entry)) q x y (j + t))) ⌝ }
+{
+    let z = y + j;
+    let mut s0 = w[z];
+    let mut s1 = w[z + 1];
+    let mut s2 = w[z + 2];
+    let mut s3 = w[z + 3];
+    let mut r = x + j;
+    let mut i = 0;
+    while i < k {
+        let v = w[q + i];
+        s0 = s0 - v * w[r];
+        s1 = s1 - v * w[r + 1];
+        s2 = s2 - v * w[r + 2];
+        s3 = s3 - v * w[r + 3];
+        r += m;
+        i += 1;
+    }
+    w[z] = s0;
+    w[z + 1] = s1;
+    w[z + 2] = s2;
+    w[z + 3] = s3;
+}
+
+// The same for the one number at y + j.
+fn lower_one(w: &mut [f64], q: usize, x: usize, y: usize, j: usize, k: usize, m: usize)
+    requires { ⌜ (j < m) × (q + k ≤ length (now w)) × (x + k * m ≤ length (now w)) × (y + m ≤ length (now w)) ⌝ }
+    ensures { λ _. ⌜ now (w .exit) ≡ put (now (w .entry)) (y + j) (tab 1 (λ t. lowerEntry binary64 k m (now (w .entry)) q x y (j + t))) ⌝ }
+{
+    let z = y + j;
+    let mut s0 = w[z];
+    let mut r = x + j;
+    let mut i = 0;
+    while i < k {
+        s0 = s0 - w[q + i] * w[r];
+        r += m;
+        i += 1;
+    }
+    w[z] = s0;
+}
+
+// The same for the next numbers: four of them, or one where fewer than four are left. Returns how many.
+fn lower_next(w: &mut [f64], q: usize, x: usize, y: usize, j: usize, k: usize, m: usize) -> usize
+    requires { ⌜ (j < m) × (q + k ≤ length (now w)) × (x + k * m ≤ length (now w)) × (y + m ≤ length (now w)) ⌝ }
+    ensures { λ c. ⌜ (1 ≤ c) × (j + c ≤ m) × (now (w .exit) ≡ put (now (w .entry)) (y + j) (tab c (λ t. lowerEntry binary64 k m (now (w .entry)) q x y (j + t)))) ⌝ }
+{
+    if j + 4 <= m {
+        lower_four(w, q, x, y, j, k, m);
+        return 4;
+    }
+    lower_one(w, q, x, y, j, k, m);
+    1
+}
+
+// The row of m numbers at y, less the k numbers at q times the first k rows at x.
+fn lower_row(w: &mut [f64], q: usize, x: usize, y: usize, k: usize, m: usize)
+    requires { ⌜ (q + k ≤ length (now w)) × (x + k * m ≤ length (now w)) × (y + m ≤ length (now w)) × Apart q k y m × Apart x (k * m) y m ⌝ }
+    ensures { λ _. ⌜ now (w .exit) ≡ put (now (w .entry)) y (tab m (lowerEntry binary64 k m (now (w .entry)) q x y)) ⌝ }
+{
+    let mut j = 0;
+    while j < m {
+        j += lower_next(w, q, x, y, j, k, m);
+    }
+}
+
+// The forward substitution row by row.
+fn forward_by_rows(w: &mut [f64], f: usize, x: usize, n: usize, m: usize)
+    requires { ⌜ (f + n * n ≤ length (now w)) × (x + n * m ≤ length (now w)) × Apart f (n * n) x (n * m) ⌝ }
+    ensures { λ _. ⌜ now (w .exit) ≡ put (now (w .entry)) x (eachColumn n m (λ l. forwardOf binary64 n (part (now (w .entry)) f (n * n)) l n) (part (now (w .entry)) x (n * m))) ⌝ }
+{
+    let mut q = f;
+    let mut y = x;
+    let mut i = 0;
+    while i < n {
+        lower_row(w, q, x, y, i, m);
+        q += n;
+        y += m;
+        i += 1;
+    }
+}
+
+// The forward substitution: L has a unit diagonal. A single column has a loop of its own, which is faster.
+pub fn forward_rows(w: &mut [f64], f: usize, x: usize, n: usize, m: usize)
+    requires { ⌜ (f + n * n ≤ length (now w)) × (x + n * m ≤ length (now w)) × Apart f (n * n) x (n * m) ⌝ }
+    ensures { λ _. ⌜ now (w .exit) ≡ put (now (w .entry)) x (eachColumn n m (λ l. forwardOf binary64 n (part (now (w .entry)) f (n * n)) l n) (part (now (w .entry)) x (n * m))) ⌝ }
+{
+    if m == 1 {
+        forward_column(w, f, x, n);
+    } else {
+        forward_by_rows(w, f, x, n, m);
+    }
+}
+
+// The four numbers at y + j and on: less the k numbers after g times the k rows, of m numbers each, after the row at y, in the columns from j on, the
+// last row first; then divided by the number at g.
+fn upper_four(w: &mut [f64], g: usize, y: usize, j: usize, k: usize, m: usize)
+    requires { ⌜ (j + 4 ≤ m) × (g + k < length (now w)) × (y + k * m + m ≤ length (now w)) ⌝ }
+    ensures { λ _. ⌜ now (w .exit) ≡ put (now (w .entry)) (y + j) (tab 4 (λ t. upperEntry binary64 k m (now (w .entry)) g y (j + t))) ⌝ }
+{
+    let z = y + j;
+    let mut s0 = w[z];
+    let mut s1 = w[z + 1];
+    let mut s2 = w[z + 2];
+    let mut s3 = w[z + 3];
+    let mut p = z + k * m;
+    let mut r = k;
+    while 0 < r {
+        let v = w[g + r];
+        s0 = s0 - v * w[p];
+        s1 = s1 - v * w[p + 1];
+        s2 = s2 - v * w[p + 2];
+        s3 = s3 - v * w[p + 3];
+        p -= m;
+        r -= 1;
+    }
+    let d = w[g];
+    w[z] = s0 / d;
+    w[z + 1] = s1 / d;
+    w[z + 2] = s2 / d;
+    w[z + 3] = s3 / d;
+}
+
+// The same for the one number at y + j.
+fn upper_one(w: &mut [f64], g: usize, y: usize, j: usize, k: usize, m: usize)
+    requires { ⌜ (j < m) × (g + k < length (now w)) × (y + k * m + m ≤ length (now w)) ⌝ }
+    ensures { λ _. ⌜ now (w .exit) ≡ put (now (w .entry)) (y + j) (tab 1 (λ t. upperEntry binary64 k m (now (w .entry)) g y (j + t))) ⌝ }
+{
+    let z = y + j;
+    let mut s0 = w[z];
+    let mut p = z + k * m;
+    let mut r = k;
+    while 0 < r {
+        s0 = s0 - w[g + r] * w[p];
+        p -= m;
+        r -= 1;
+    }
+    w[z] = s0 / w[g];
+}
+
+// The same for the next numbers: four of them, or one where fewer than four are left. Returns how many.
+fn upper_next(w: &mut [f64], g: usize, y: usize, j: usize, k: usize, m: usize) -> usize
+    requires { ⌜ (j < m) × (g + k < length (now w)) × (y + k * m + m ≤ length (now w)) ⌝ }
+    ensures { λ c. ⌜ (1 ≤ c) × (j + c ≤ m) × (now (w .exit) ≡ put (now (w .entry)) (y + j) (tab c (λ t. upperEntry binary64 k m (now (w .entry)) g y (j + t)))) ⌝ }
+{
+    if j + 4 <= m {
+        upper_four(w, g, y, j, k, m);
+        return 4;
+    }
+    upper_one(w, g, y, j, k, m);
+    1
+}
+
+// The row of m numbers at y, less the k numbers after g times the k rows after it, the last first; then divided by the number at g.
+fn upper_row(w: &mut [f64], g: usize, y: usize, k: usize, m: usize)
+    requires { ⌜ (g + k < length (now w)) × (y + k * m + m ≤ length (now w)) × Apart g (k + 1) y m ⌝ }
+    ensures { λ _. ⌜ now (w .exit) ≡ put (now (w .entry)) y (tab m (upperEntry binary64 k m (now (w .entry)) g y)) ⌝ }
+{
+    let mut j = 0;
+    while j < m {
+        j += upper_next(w, g, y, j, k, m);
+    }
+}
+
+// The back substitution row by row.
+fn back_by_rows(w: &mut [f64], f: usize, x: usize, n: usize, m: usize)
+    requires { ⌜ (f + n * n ≤ length (now w)) × (x + n * m ≤ length (now w)) × Apart f (n * n) x (n * m) ⌝ }
+    ensures { λ _. ⌜ now (w .exit) ≡ put (now (w .entry)) x (eachColumn n m (λ l. backOf binary64 n (part (now (w .entry)) f (n * n)) l n) (part (now (w .entry)) x (n * m))) ⌝ }
+{
+    let mut q = f + n * n;
+    let mut y = x + n * m;
+    let mut i = n;
+    while 0 < i {
+        let k = n - i;
+        i -= 1;
+        q -= n;
+        y -= m;
+        upper_row(w, q + i, y, k, m);
+    }
+}
+
+// The back substitution. A single column has a loop of its own, which is faster.
+pub fn back_rows(w: &mut [f64], f: usize, x: usize, n: usize, m: usize)
+    requires { ⌜ (f + n * n ≤ length (now w)) × (x + n * m ≤ length (now w)) × Apart f (n * n) x (n * m) ⌝ }
+    ensures { λ _. ⌜ now (w .exit) ≡ put (now (w .entry)) x (eachColumn n m (λ l. backOf binary64 n (part (now (w .entry)) f (n * n)) l n) (part (now (w .entry)) x (n * m))) ⌝ }
+{
+    if m == 1 {
+        back_column(w, f, x, n);
+    } else {
+        back_by_rows(w, f, x, n, m);
     }
 }

@@ -1,61 +1,64 @@
--- `lower_row` meets its contract: the row of its kernel is an element of each column. Assumes nothing.
-use Prim.Native.Nat.{_*_}
+-- `lower_row` meets its contract. The invariant: the first j numbers of the row are written, and nothing else is changed. Assumes nothing.
+use Prim.Native.Nat.{_-_, _≤_}
 use native.Mathlib.Omega.{arith}
+use mathlib.Core.Path.{_≡_, refl, _∙_}
+use lib.ListN.{length}
 use lib.Ieee.{binary64}
-use borrow.Author.Tests.{eqb-false}
-use Rattle.arithmetic.specs.Matrix.{part}
-use Rattle.arithmetic.proofs.MatrixLaws.{row-end}
-use Rattle.lu.proofs.RowLaws.{rows-apart}
-use Rattle.lu.proofs.RowSteps.{lower-row-is}
-use borrow.Author.Needs.{needs}
+use Rattle.arithmetic.specs.Matrix.{tab, put}
+use Rattle.arithmetic.proofs.PartLaws.{put-none}
+use Rattle.lu.specs.Solve.{lowerEntry}
+use Rattle.lu.proofs.ByRows.{lower-more}
 use Rattle.lu.proofs.rows.lower_row.Statement.{statement}
 use Rattle.lu.proofs.rows.lower_row.Tie as tie
 
-factor-at-requires : tie.Need-factor-at-requires
-factor-at-requires c κs = search needs
+abbrev Inv-loop : tie.InvT-loop
+Inv-loop w₀ q x y k m j₀ w j = (j ≤ m) × (length w ≡ length w₀) × (w ≡ put w₀ y (tab j (lowerEntry binary64 k m w₀ q x y)))
 
-mul-subtract-multiple : tie.Need-mul-subtract-multiple
-mul-subtract-multiple c = let s = c .before .before .before .before in omega (arith, row-end (s .args .k) (s .args .n) (s .args .m) (s .pre .1))
+abbrev μ-loop : tie.MeasureT-loop
+μ-loop w₀ q x y k m j₀ w j = m - j
 
-add-subtract-multiple : tie.Need-add-subtract-multiple
-add-subtract-multiple c = let s = c .before .before .before .before in omega (arith, row-end (s .args .k) (s .args .n) (s .args .m) (s .pre .1))
+loop-holds : tie.Need-loop-holds Inv-loop μ-loop
+loop-holds c = (omega arith, refl, put-none _ _ _)
 
-mul-subtract-multiple-2 : tie.Need-mul-subtract-multiple-2
-mul-subtract-multiple-2 c = let s = c .before .before .before .before in omega (arith, row-end (s .args .i) (s .args .n) (s .args .m) (s .pre .0))
+lower-next-requires : tie.Need-lower-next-requires Inv-loop μ-loop
+lower-next-requires c κs = omega arith
 
-add-subtract-multiple-2 : tie.Need-add-subtract-multiple-2
-add-subtract-multiple-2 c = let s = c .before .before .before .before in omega (arith, row-end (s .args .i) (s .args .n) (s .args .m) (s .pre .0))
+add-j : tie.Need-add-j Inv-loop μ-loop
+add-j c = omega arith
 
-subtract-multiple-requires : tie.Need-subtract-multiple-requires
-subtract-multiple-requires c κs =
-    let s = c .before .before .before .before in
-    let a = s .args in (
-      omega (arith, row-end (a .k) (a .n) (a .m) (s .pre .1)),
-      omega (arith, row-end (a .i) (a .n) (a .m) (s .pre .0)),
-      rows-apart (a .x) (a .m) (a .i) (a .k) (eqb-false (a .i) (a .k) (s .pre .2)),
+loop-less : tie.Need-loop-less Inv-loop μ-loop
+loop-less c = omega arith
+
+loop-again : tie.Need-loop-again Inv-loop μ-loop
+loop-again c =
+    let next = c .before .before .lower-next in
+    let at-loop = c .before .before .before .before .before in
+    let l = at-loop .loop in
+    let a = at-loop .before .before .args in
+    let pre = at-loop .before .before .pre in (
+      next .ensures .1,
+      next .kept .0 ∙ l .inv .1,
+      rw (next .ensures .2, l .inv .2) (lower-more binary64 (a .k) (a .m) (a .w .now) (a .y) (l .j) (next .result) (next .ensures .1) (a .q) (a .x) (pre .3) (pre .4)),
     )
 
-same-length : tie.Need-same-length
-same-length c = search needs
+same-length : tie.Need-same-length Inv-loop μ-loop
+same-length c = omega arith
 
-returns : tie.Need-returns
+returns : tie.Need-returns Inv-loop μ-loop
 returns c =
-    let call = c .before .before in
-    let read = call .before .before in
-    let s = read .before .before .before in
-    let a = s .args in
-    lower-row-is binary64 (a .w .now) (call .subtract-multiple .last .0) (a .x) (a .n) (a .m) (s .pre .4) (part (a .w .now) (a .f) (a .n * a .n)) (a .i) (a .k) (read .factor-at .result)
-    (s .pre .0) (s .pre .1) (read .factor-at .ensures) (call .subtract-multiple .ensures)
+    let e : c .before .loop .j ≡ c .before .before .before .args .m = omega arith in
+    rw e at (c .before .loop .inv .2)
 
 pub lower-row-spec : {M : Type 1} → statement M
 lower-row-spec =
     tie.close
     (tie.spec
-    factor-at-requires
-    mul-subtract-multiple
-    add-subtract-multiple
-    mul-subtract-multiple-2
-    add-subtract-multiple-2
-    subtract-multiple-requires
+    Inv-loop
+    μ-loop
+    loop-holds
+    lower-next-requires
+    add-j
+    loop-less
+    loop-again
     same-length
     returns)
