@@ -15,7 +15,8 @@ use Rattle.arithmetic.specs.Matrix.{tab, at, item, part, patch, put, Apart}
 use Rattle.arithmetic.proofs.Order.{same-or-not}
 use Rattle.arithmetic.proofs.MatrixLaws.{length-tab, getD-tab, tab-cong, tab-is, index-lt, more-rows}
 use Rattle.arithmetic.proofs.PatchLaws.{length-patch, patch-is, patch-in, patch-below, patch-above, patch-none, patch-more, patch-all}
-use Rattle.arithmetic.proofs.PartLaws.{at-part, length-put, put-tab-suc, put-none, getD-put-after, getD-put-apart}
+use Rattle.arithmetic.proofs.ProductLaws.{put-more}
+use Rattle.arithmetic.proofs.PartLaws.{at-part, length-put, getD-put-after, getD-put-apart}
 use Rattle.lu.specs.Solve.{forwardStep, forward, backStep, back, low, lowerEntry, upperEntry, eachColumn}
 use Rattle.lu.proofs.SolveLaws.{length-forward, length-back}
 use Rattle.lu.proofs.RowLaws.{each-none, each-cong, each-turn, factors-kept, item-part, row-item, set-row}
@@ -142,17 +143,7 @@ rows-from i k n m h = let e : i + (k + 1) ≡ n = omega arith in ap (λ t. i * m
 
 -- ---- a row, written from the left
 
--- c more numbers after the first j
-put-more : (c : ℕ) (w : List Float) (y j : ℕ) (R : ℕ → Float) → put (put w y (tab j R)) (y + j) (tab c (λ t. R (j + t))) ≡ put w y (tab (j + c) R)
-put-more zero w y j R = let e : j + 0 ≡ j = omega arith in rw e (sym (put-none (put w y (tab j R)) (y + j) (λ t. R (j + t))))
-put-more (suc c) w y j R =
-    let e : j + suc c ≡ suc (j + c) = omega arith in
-    let a : y + j + c ≡ y + (j + c) = omega arith in
-    sym (put-tab-suc (put w y (tab j R)) (y + j) c (λ t. R (j + t)))
-    ∙ ap (λ (u : List Float). set u (y + j + c) (R (j + c))) (put-more c w y j R)
-    ∙ rw (e, a) (put-tab-suc w y (j + c) R)
-
--- they read nothing of what is written
+-- c more numbers after the first j: they read nothing of what is written
 module _ (f : Format) (k m : ℕ) (w : List Float) (y j c : ℕ) (h : j + c ≤ m) where
   pub lower-more : (q x : ℕ) → Apart q k y m → Apart x (k * m) y m
       → let R : ℕ → Float = lowerEntry f k m w q x y in
