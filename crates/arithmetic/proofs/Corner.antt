@@ -12,12 +12,13 @@ use lib.Dec.{eqb, eqb→eq, not-T}
 use lib.Ieee.{Float, Format, nan, mul}
 use lib.Ieee.Fits.{add-fits, mul-fits}
 use lib.Ieee.Bits.{is-false}
-use Rattle.arithmetic.specs.Float.{one, +zero}
+use Rattle.floats.specs.Float.{one, +zero}
 use Rattle.arithmetic.specs.Matrix.{at, item}
 use Rattle.arithmetic.specs.Product.{dot, mulM, scaleM, diagonalEntry, diagonalM, identityM, squared}
-use Rattle.arithmetic.specs.Finite.{FiniteProduct, Fin}
-use Rattle.arithmetic.proofs.Order.{split}
-use Rattle.arithmetic.proofs.Zero.{Zero, Plus, Fits, zero-fits, plus-of-positive, add-zero-right, add-plus, mul-zero-left, mul-zero-right}
+use Rattle.floats.specs.Float.{Fin}
+use Rattle.arithmetic.specs.Finite.{FiniteProduct}
+use Rattle.floats.proofs.Order.{split}
+use Rattle.floats.proofs.Zero.{Zero, Plus, Fits, zero-fits, plus-of-positive, add-zero-right, add-plus, mul-zero-left, mul-zero-right}
 use Rattle.arithmetic.proofs.MatrixLaws.{at-grid, getD-tab, index-lt}
 use Rattle.arithmetic.proofs.ProductLaws.{dot-cong}
 

@@ -6,7 +6,7 @@ use mathlib.Core.Path.{_≡_, refl, _∙_, ap}
 use mathlib.Core.List.{List}
 use lib.ListN.{getD}
 use lib.Ieee.{Float, Format, nan, add, ofBits}
-use Rattle.arithmetic.specs.Float.{magnitude, larger}
+use Rattle.floats.specs.Float.{magnitude, larger}
 use Rattle.arithmetic.specs.Matrix.{part, tab, grid, item}
 use Rattle.arithmetic.specs.Product.{dot, sum, minusIdentityEntry, minusIdentityM}
 use Rattle.arithmetic.specs.Norm.{sumOfMagnitudes, largest, norm1, sumOfSquares, trace}

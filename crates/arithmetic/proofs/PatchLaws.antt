@@ -11,7 +11,7 @@ use lib.Seq.{ext-getD, getD-set-same, getD-set-other}
 use lib.Ieee.{Float, nan}
 use borrow.Author.Tests.{lt-ltb, le-ltb, le-leb, lt-leb}
 use Rattle.arithmetic.specs.Matrix.{tab, at, grid, mapIndexed, patch, rowTo, withRow, rowsTo}
-use Rattle.arithmetic.proofs.Order.{split}
+use Rattle.floats.proofs.Order.{split}
 use Rattle.arithmetic.proofs.MatrixLaws.{length-tab, getD-tab, index-lt, row-lt, column-lt, grid-is}
 
 -- ---- patches

@@ -11,11 +11,11 @@ use lib.ListN.{length}
 use lib.Seq.{ext-getD}
 use borrow.Author.Tests.{eqb-false, ne-eqb, eq-eqb, le-ltb}
 use lib.Ieee.{Float, Format, nan}
-use Rattle.arithmetic.specs.Float.{+zero}
+use Rattle.floats.specs.Float.{+zero}
 use Rattle.arithmetic.specs.Matrix.{tab, item, part, put, Apart}
 use Rattle.arithmetic.specs.Product.{mulM, squared}
 use Rattle.arithmetic.specs.Workspace.{slot, store, Room, member, Only, Squared, cleared}
-use Rattle.arithmetic.proofs.Order.{split}
+use Rattle.floats.proofs.Order.{split}
 use Rattle.arithmetic.proofs.MatrixLaws.{length-tab, tab-cong, square-le}
 use Rattle.arithmetic.proofs.PartLaws.{length-put, length-part, part-put, part-put-apart, getD-put-before, getD-put-after, getD-put-in}
 use Rattle.arithmetic.proofs.ProductLaws.{length-mulM, squared-more}

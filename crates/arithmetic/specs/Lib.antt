@@ -1,11 +1,5 @@
-pub mod Float
-pub mod Root
 pub mod Matrix
 pub mod Product
 pub mod Norm
 pub mod Workspace
 pub mod Finite
-pub mod Result
-pub mod Questions
-pub mod Answers
-pub mod Outputs

@@ -1,8 +1,8 @@
 // What the lines compare: outcomes, numbers by their bits, and bytes.
 ghost use Prim.Native.Nat.{_<_};
-use arithmetic::answer::Outcome;
-use arithmetic::answer::Refusal;
-use arithmetic::float::bits_of;
+use floats::float::bits_of;
+use questions::answer::Outcome;
+use questions::answer::Refusal;
 
 // What each number of an output holds before a call.
 pub const LENT: f64 = 7.0;

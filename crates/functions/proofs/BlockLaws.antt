@@ -11,11 +11,11 @@ use lib.ListN.{length}
 use lib.Seq.{ext-getD}
 use lib.Ieee.{Float, nan}
 use borrow.Author.Tests.{lt-ltb, le-ltb}
-use Rattle.arithmetic.specs.Float.{+zero}
+use Rattle.floats.specs.Float.{+zero}
 use Rattle.arithmetic.specs.Matrix.{tab, grid, item, at, part, put, putRows}
 use Rattle.arithmetic.specs.Product.{zeroM}
 use Rattle.arithmetic.specs.Workspace.{store}
-use Rattle.arithmetic.proofs.Order.{split}
+use Rattle.floats.proofs.Order.{split}
 use Rattle.arithmetic.proofs.MatrixLaws.{length-tab, getD-tab, length-grid, grid-is, row-end, index-lt}
 use Rattle.arithmetic.proofs.PartLaws.{length-put, length-part, at-part, getD-part, getD-put-before, getD-put-after, getD-put-in}
 use Rattle.arithmetic.proofs.ProductLaws.{length-zeroM}

@@ -8,27 +8,27 @@ use mathlib.Core.List.{List}
 use lib.Dec.{ltb}
 use lib.ListN.{length}
 use lib.Ieee.{Float, Format, nan}
-use Rattle.arithmetic.specs.Float.{+zero}
+use Rattle.floats.specs.Float.{+zero}
 use Rattle.arithmetic.specs.Matrix.{item, part}
 use Rattle.arithmetic.specs.Product.{diagonalM}
 use Rattle.arithmetic.specs.Norm.{frobenius}
 use Rattle.arithmetic.specs.Workspace.{Room, store, cleared, Only}
-use Rattle.arithmetic.specs.Result.{Result, refused, done, outcome, exit, workspace}
-use Rattle.arithmetic.specs.Questions.{Call, Profile, asked, answer}
-use Rattle.arithmetic.specs.Answers.{numbered, reported, found}
-use Rattle.arithmetic.specs.Outputs.{Both}
-use Rattle.arithmetic.specs.declared.answer.Outcome.{Outcome}
-use Rattle.arithmetic.specs.declared.answer.Outcome.the-variants.{Done, Refused}
-use Rattle.arithmetic.specs.declared.answer.Question.{Question}
-use Rattle.arithmetic.specs.declared.answer.Question.the-variants.{Passed, No}
-use Rattle.arithmetic.specs.declared.answer.Refusal.{Refusal}
+use Rattle.questions.specs.Result.{Result, refused, done, outcome, exit, workspace}
+use Rattle.questions.specs.Questions.{Call, Profile, asked, answer}
+use Rattle.questions.specs.Answers.{numbered, reported, found}
+use Rattle.questions.specs.Outputs.{Both}
+use Rattle.questions.specs.declared.answer.Outcome.{Outcome}
+use Rattle.questions.specs.declared.answer.Outcome.the-variants.{Done, Refused}
+use Rattle.questions.specs.declared.answer.Question.{Question}
+use Rattle.questions.specs.declared.answer.Question.the-variants.{Passed, No}
+use Rattle.questions.specs.declared.answer.Refusal.{Refusal}
 use Rattle.arithmetic.proofs.MatrixLaws.{tab-is, square-le}
 use Rattle.arithmetic.proofs.PartLaws.{part-put}
 use Rattle.arithmetic.proofs.ProductLaws.{length-diagonalM}
 use Rattle.arithmetic.proofs.Slots.{only-store, only-trans, cleared-only}
-use Rattle.arithmetic.proofs.QuestionLaws.{as-refused}
-use Rattle.arithmetic.proofs.AnswerLaws.{answer-passed, outcome-no, exit-no}
-use Rattle.arithmetic.proofs.OutputLaws.{Late, late-where}
+use Rattle.questions.proofs.QuestionLaws.{as-refused}
+use Rattle.questions.proofs.AnswerLaws.{answer-passed, outcome-no, exit-no}
+use Rattle.questions.proofs.OutputLaws.{Late, late-where}
 use Rattle.functions.specs.Derivatives.{Condition, unitDirection, conditionOf, conditioned, condExpM, frechetExpM}
 use Rattle.functions.specs.Frechet.{Written}
 use Rattle.functions.specs.Conditions.{Rated, rated, Conditioned}

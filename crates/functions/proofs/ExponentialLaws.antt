@@ -10,9 +10,9 @@ use lib.ListN.{length, take, drop, length-drop}
 use lib.Seq.{take-all}
 use lib.Ieee.{Float, Format, add, mul}
 use borrow.Author.Tests.{eq-eqb, ne-eqb}
-use Rattle.lu.specs.declared.LuOutcome.{LuOutcome}
-use Rattle.lu.specs.declared.LuOutcome.the-variants.{Factored, Singular}
-use Rattle.arithmetic.specs.Float.{+zero, inversePowerOfTwo}
+use Rattle.factoring.specs.declared.LuOutcome.{LuOutcome}
+use Rattle.factoring.specs.declared.LuOutcome.the-variants.{Factored, Singular}
+use Rattle.floats.specs.Float.{+zero, inversePowerOfTwo}
 use Rattle.arithmetic.specs.Matrix.{at, item, part}
 use Rattle.arithmetic.specs.Product.{zeroM, dot, accumulateM, identityM, scaleM, squared, mulM}
 use Rattle.arithmetic.specs.Workspace.{Room, slot, store, member, Squared}
@@ -22,10 +22,10 @@ use Rattle.arithmetic.proofs.ProductLaws.{length-zeroM, at-tab, length-accumula
 use Rattle.arithmetic.proofs.Slots.{only-trans, only-more, length-slot, slot-only, only-refl}
 use Rattle.arithmetic.proofs.States.{held, Held, listed, State, start, step-identity, step-zero, step-accumulate, step-call, state-listed, holds-as, held-at, member-among, step-scale, step-copy-in, step-copy, step-mult, Holds}
 use Rattle.arithmetic.specs.Norm.{norm1}
-use Rattle.arithmetic.proofs.OutputLaws.{Late}
-use Rattle.lu.specs.Lu.{luOutcome}
-use Rattle.lu.specs.Solve.{standIn, divided, quotient}
-use Rattle.lu.proofs.DivisionLaws.{divided-slot, divided-only}
+use Rattle.questions.proofs.OutputLaws.{Late}
+use Rattle.factoring.specs.Lu.{luOutcome}
+use Rattle.factoring.specs.Solve.{standIn, divided, quotient}
+use Rattle.factoring.proofs.DivisionLaws.{divided-slot, divided-only}
 use Rattle.functions.specs.Powers.{expM}
 use Rattle.functions.proofs.HalvingLaws.{halvings-late}
 use Rattle.functions.specs.Exponential.{coefficient, nextCoefficient, nextPower, power, combinationTo, flipped, flip, Raised, Summed, Quotient, Approximated, Exponentiated, numerator, denominator, combination, exponential, pade, scaled}

@@ -10,14 +10,14 @@ use lib.Dec.{ltb, lt→ltb, lit≤}
 use lib.Arith.{le→nltb}
 use lib.Ieee.{Float, Format, binary64, prec}
 use lib.Ieee.Bits.{is-true, is-false}
-use Rattle.arithmetic.specs.Float.{+zero}
+use Rattle.floats.specs.Float.{+zero}
 use Rattle.arithmetic.specs.Matrix.{at}
 use Rattle.arithmetic.specs.Norm.{norm1}
-use Rattle.arithmetic.specs.Result.{Result, done, _>>=_, exit}
-use Rattle.arithmetic.specs.Answers.{numbered, reported}
-use Rattle.arithmetic.specs.Outputs.{Both}
-use Rattle.arithmetic.specs.declared.answer.Outcome.{Outcome}
-use Rattle.arithmetic.specs.declared.answer.Refusal.{Refusal}
+use Rattle.questions.specs.Result.{Result, done, _>>=_, exit}
+use Rattle.questions.specs.Answers.{numbered, reported}
+use Rattle.questions.specs.Outputs.{Both}
+use Rattle.questions.specs.declared.answer.Outcome.{Outcome}
+use Rattle.questions.specs.declared.answer.Refusal.{Refusal}
 use Rattle.arithmetic.proofs.MatrixLaws.{at-grid, grid-is}
 use Rattle.arithmetic.proofs.Corner.{Corner}
 use Rattle.functions.specs.Exponential.{exponential, block, quarter, quarterRow}

@@ -9,20 +9,20 @@ use lib.Dec.{ltb}
 use lib.ListN.{length}
 use lib.Ieee.{Float, Format}
 use Rattle.arithmetic.specs.Workspace.{slot, store, cleared, Only, Room}
-use Rattle.arithmetic.specs.Result.{Result, refused, done, outcome, exit}
-use Rattle.arithmetic.specs.Questions.{Call, Profile, asked, answer}
-use Rattle.arithmetic.specs.Answers.{reported, found}
-use Rattle.arithmetic.specs.Outputs.{Both, TwoOutputsWith, Replaced}
-use Rattle.arithmetic.specs.declared.answer.Outcome.{Outcome}
-use Rattle.arithmetic.specs.declared.answer.Outcome.the-variants.{Done, Refused}
-use Rattle.arithmetic.specs.declared.answer.Question.{Question}
-use Rattle.arithmetic.specs.declared.answer.Question.the-variants.{Passed}
-use Rattle.arithmetic.specs.declared.answer.Refusal.{Refusal}
+use Rattle.questions.specs.Result.{Result, refused, done, outcome, exit}
+use Rattle.questions.specs.Questions.{Call, Profile, asked, answer}
+use Rattle.questions.specs.Answers.{reported, found}
+use Rattle.questions.specs.Outputs.{Both, TwoOutputsWith, Replaced}
+use Rattle.questions.specs.declared.answer.Outcome.{Outcome}
+use Rattle.questions.specs.declared.answer.Outcome.the-variants.{Done, Refused}
+use Rattle.questions.specs.declared.answer.Question.{Question}
+use Rattle.questions.specs.declared.answer.Question.the-variants.{Passed}
+use Rattle.questions.specs.declared.answer.Refusal.{Refusal}
 use Rattle.arithmetic.proofs.MatrixLaws.{square-le, length-grid, row-end}
 use Rattle.arithmetic.proofs.Slots.{slot-store, only-store, only-trans, only-more, cleared-only}
 use Rattle.arithmetic.proofs.States.{among, member-among}
-use Rattle.arithmetic.proofs.AnswerLaws.{answer-passed}
-use Rattle.arithmetic.proofs.OutputLaws.{Late, late-where, exit-done, exit-refused, exit-as}
+use Rattle.questions.proofs.AnswerLaws.{answer-passed}
+use Rattle.questions.proofs.OutputLaws.{Late, late-where, exit-done, exit-refused, exit-as}
 use Rattle.functions.specs.Exponential.{block, quarter}
 use Rattle.functions.specs.Powers.{expM}
 use Rattle.functions.specs.Derivatives.{frechetExpM, blockQuarters}

@@ -7,20 +7,20 @@ use mathlib.Core.List.{List}
 use lib.Dec.{T, lit≤}
 use lib.Ieee.{Float, binary64, fits}
 use lib.Ieee.Scale.{finite}
-use Rattle.arithmetic.specs.Float.{halvings}
+use Rattle.floats.specs.Float.{halvings}
 use Rattle.arithmetic.specs.Workspace.{slot, member, Only}
-use Rattle.arithmetic.specs.Result.{Result, refused, done, _>>=_, outcome, exit, passes, ask}
-use Rattle.arithmetic.specs.Answers.{numbered, reported, found}
-use Rattle.arithmetic.specs.Outputs.{Replaced}
-use Rattle.arithmetic.specs.declared.answer.Outcome.{Outcome}
-use Rattle.arithmetic.specs.declared.answer.Outcome.the-variants.{Done, Refused}
-use Rattle.arithmetic.specs.declared.answer.Question.{Question}
-use Rattle.arithmetic.specs.declared.answer.Question.the-variants.{Passed, No}
-use Rattle.arithmetic.specs.declared.answer.Refusal.{Refusal}
-use Rattle.arithmetic.proofs.Least.{halvings-le}
-use Rattle.arithmetic.proofs.QuestionLaws.{as-refused}
-use Rattle.arithmetic.proofs.OutputLaws.{Late}
-use Rattle.arithmetic.proofs.BothLaws.{call-refused}
+use Rattle.questions.specs.Result.{Result, refused, done, _>>=_, outcome, exit, passes, ask}
+use Rattle.questions.specs.Answers.{numbered, reported, found}
+use Rattle.questions.specs.Outputs.{Replaced}
+use Rattle.questions.specs.declared.answer.Outcome.{Outcome}
+use Rattle.questions.specs.declared.answer.Outcome.the-variants.{Done, Refused}
+use Rattle.questions.specs.declared.answer.Question.{Question}
+use Rattle.questions.specs.declared.answer.Question.the-variants.{Passed, No}
+use Rattle.questions.specs.declared.answer.Refusal.{Refusal}
+use Rattle.floats.proofs.Least.{halvings-le}
+use Rattle.questions.proofs.QuestionLaws.{as-refused}
+use Rattle.questions.proofs.OutputLaws.{Late}
+use Rattle.questions.proofs.BothLaws.{call-refused}
 use Rattle.arithmetic.proofs.Slots.{only-refl}
 use Rattle.functions.specs.Powers.{halvingsFor, halvingsReport}
 

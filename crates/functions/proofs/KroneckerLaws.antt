@@ -8,7 +8,7 @@ use native.Mathlib.Omega.{arith}
 use lib.Arith.{digits-div, digits-mod}
 use lib.ListN.{length}
 use lib.Ieee.{Float, Format, add, mul, nan}
-use Rattle.arithmetic.specs.Float.{one}
+use Rattle.floats.specs.Float.{one}
 use Rattle.arithmetic.specs.Matrix.{tab, grid, at, item, put}
 use Rattle.arithmetic.specs.Product.{diagonalEntry, identityM, addM}
 use Rattle.arithmetic.proofs.MatrixLaws.{length-tab, getD-tab, tab-is, length-grid, at-grid, grid-suc, grid-cong, grid-is, index-lt, row-end, row-lt, column-lt, more-rows}

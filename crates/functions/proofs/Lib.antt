@@ -7,4 +7,3 @@ pub mod FrechetLaws
 pub mod FirstOutput
 pub mod ConditionLaws
 pub mod KroneckerLaws
-pub mod KroneckerQuestions

@@ -8,21 +8,21 @@ use native.Mathlib.Nat.{lt-of-lt-of-le}
 use native.Mathlib.Omega.{arith}
 use lib.ListN.{length}
 use lib.Ieee.{Float, Format, prec}
-use Rattle.lu.specs.declared.LuOutcome.{LuOutcome}
-use Rattle.lu.specs.declared.LuOutcome.the-variants.{Factored, Singular}
-use Rattle.arithmetic.specs.Float.{inversePowerOfTwo}
+use Rattle.factoring.specs.declared.LuOutcome.{LuOutcome}
+use Rattle.factoring.specs.declared.LuOutcome.the-variants.{Factored, Singular}
+use Rattle.floats.specs.Float.{inversePowerOfTwo}
 use Rattle.arithmetic.specs.Matrix.{at, item, column}
 use Rattle.arithmetic.specs.Product.{dot}
-use Rattle.arithmetic.proofs.Zero.{mul-zero-right, Fits, Plus, Zero}
+use Rattle.floats.proofs.Zero.{mul-zero-right, Fits, Plus, Zero}
 use Rattle.arithmetic.proofs.MatrixLaws.{at-grid, item-column, length-grid}
 use Rattle.arithmetic.proofs.ProductLaws.{dot-cong, length-squared}
 use Rattle.arithmetic.proofs.Corner.{Corner, product-corner, identity-corner, dot-zero, dot-fits, dot-plus, scale-corner, squared-corner}
-use Rattle.lu.specs.Lu.{luFactors, luPivots, luOutcome}
-use Rattle.lu.specs.Solve.{standIn, quotient, solution, solvedMatrix}
-use Rattle.lu.specs.Finite.{FiniteFactors, FiniteSolution}
-use Rattle.lu.proofs.Tolerance.{tolerance-mono}
-use Rattle.lu.proofs.Factors.{outcome-corner}
-use Rattle.lu.proofs.Solution.{Sound, Top, solution-top}
+use Rattle.factoring.specs.Lu.{luFactors, luPivots, luOutcome}
+use Rattle.factoring.specs.Solve.{standIn, quotient, solution, solvedMatrix}
+use Rattle.factoring.specs.Finite.{FiniteFactors, FiniteSolution}
+use Rattle.factoring.proofs.Tolerance.{tolerance-mono}
+use Rattle.factoring.proofs.Factors.{outcome-corner}
+use Rattle.factoring.proofs.Solution.{Sound, Top, solution-top}
 use Rattle.functions.specs.Exponential.{power, combination, numerator, denominator, coefficient, flipped, pade, exponential, scaled, combinationTo}
 use Rattle.functions.specs.Finite.{FinitePowers, FiniteCombination, FinitePade, FiniteRun}
 

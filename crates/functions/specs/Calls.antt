@@ -2,9 +2,9 @@
 use Prim.Native.Nat.{ℕ}
 use mathlib.Core.List.{List, [], _∷_}
 use lib.Ieee.{Float, Format}
-use Rattle.arithmetic.specs.Result.{Result, done}
-use Rattle.arithmetic.specs.Questions.{unary, powered, binary, answer, ofExpm, ofLogm, ofSqrtm, ofPowm, ofCosm, ofSinm, ofFrechetExpm, ofFrechetLogm, ofFrechetSqrtm, ofCondExpm, ofKron, ofKronSum}
-use Rattle.arithmetic.specs.Outputs.{Both}
+use Rattle.questions.specs.Result.{Result, done}
+use Rattle.questions.specs.Questions.{unary, powered, binary, answer, ofExpm, ofLogm, ofSqrtm, ofPowm, ofCosm, ofSinm, ofFrechetExpm, ofFrechetLogm, ofFrechetSqrtm, ofCondExpm, ofKron, ofKronSum}
+use Rattle.questions.specs.Outputs.{Both}
 use Rattle.functions.specs.Roots.{squareRoot}
 use Rattle.functions.specs.Logarithm.{logarithm}
 use Rattle.functions.specs.Powers.{expM, powerM}

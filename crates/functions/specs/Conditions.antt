@@ -1,10 +1,10 @@
 -- What cond_expm answers, of the result that its definition gives. Definitions only.
 use mathlib.Core.Path.{_≡_}
 use lib.Ieee.{Float}
-use Rattle.arithmetic.specs.Float.{+zero}
-use Rattle.arithmetic.specs.Result.{Result, refused, done, exit, outcome as outcomeOf}
-use Rattle.arithmetic.specs.Answers.{reported}
-use Rattle.arithmetic.specs.declared.answer.Outcome.{Outcome}
+use Rattle.floats.specs.Float.{+zero}
+use Rattle.questions.specs.Result.{Result, refused, done, exit, outcome as outcomeOf}
+use Rattle.questions.specs.Answers.{reported}
+use Rattle.questions.specs.declared.answer.Outcome.{Outcome}
 use Rattle.functions.specs.Derivatives.{Condition}
 
 -- three numbers that are those of c

@@ -5,15 +5,15 @@ use mathlib.Core.List.{List, [], _∷_}
 use lib.IntN.{pos}
 use lib.Dec.{eqb}
 use lib.Ieee.{Float, Format, binary64, add, mul, div, lt, ofInt}
-use Rattle.arithmetic.specs.Float.{+zero, one, epsilon, constant, powerOfTwo}
-use Rattle.arithmetic.specs.Root.{sqrtOf}
+use Rattle.floats.specs.Float.{+zero, one, epsilon, constant, powerOfTwo}
+use Rattle.floats.specs.Root.{sqrtOf}
 use Rattle.arithmetic.specs.Matrix.{item, at, grid}
 use Rattle.arithmetic.specs.Product.{accumulateM, differenceQuotientM, diagonalM, transposeM}
 use Rattle.arithmetic.specs.Norm.{frobenius}
-use Rattle.arithmetic.specs.Result.{Result, refused, done, _>>=_}
-use Rattle.arithmetic.specs.Outputs.{Both}
-use Rattle.lu.specs.Lu.{luOutcome, luFactors, luPivots}
-use Rattle.lu.specs.Solve.{solved, whereFactored}
+use Rattle.questions.specs.Result.{Result, refused, done, _>>=_}
+use Rattle.questions.specs.Outputs.{Both}
+use Rattle.factoring.specs.Lu.{luOutcome, luFactors, luPivots}
+use Rattle.factoring.specs.Solve.{solved, whereFactored}
 use Rattle.functions.specs.Exponential.{block, quarter}
 use Rattle.functions.specs.Roots.{orNotConverged, squareRoot}
 use Rattle.functions.specs.Logarithm.{logarithm}

@@ -5,12 +5,12 @@ use mathlib.Core.List.{List}
 use lib.Dec.{ltb}
 use lib.Ieee.{Float, Format}
 use Rattle.arithmetic.specs.Workspace.{slot, Only}
-use Rattle.arithmetic.specs.Result.{Result, done, exit, outcome as outcomeOf}
-use Rattle.arithmetic.specs.Answers.{reported}
-use Rattle.arithmetic.specs.Outputs.{Both}
-use Rattle.arithmetic.specs.declared.answer.Outcome.{Outcome}
-use Rattle.lu.specs.Lu.{luOutcome}
-use Rattle.lu.specs.declared.LuOutcome.the-variants.{Factored}
+use Rattle.questions.specs.Result.{Result, done, exit, outcome as outcomeOf}
+use Rattle.questions.specs.Answers.{reported}
+use Rattle.questions.specs.Outputs.{Both}
+use Rattle.questions.specs.declared.answer.Outcome.{Outcome}
+use Rattle.factoring.specs.Lu.{luOutcome}
+use Rattle.factoring.specs.declared.LuOutcome.the-variants.{Factored}
 use Rattle.functions.specs.Exponential.{denominator, scaled, exponential, block, quarter}
 use Rattle.functions.specs.Finite.{FiniteRun}
 

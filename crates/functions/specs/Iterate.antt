@@ -2,7 +2,7 @@
 -- or failed stays as it is. Definitions only.
 use Prim.Native.Nat.{ℕ, zero, suc}
 use mathlib.Core.Bool.{Bool, true, false}
-use Rattle.arithmetic.specs.Result.{Result, refused, done}
+use Rattle.questions.specs.Result.{Result, refused, done}
 
 pub data Step (S : Type 0) : Type 0 where
   running stopped : S → Step S

@@ -2,7 +2,7 @@
 use Prim.Native.Nat.{ℕ, _*_, _/_, _%_}
 use mathlib.Core.List.{List}
 use lib.Ieee.{Float, Format, add, mul}
-use Rattle.arithmetic.specs.Float.{one}
+use Rattle.floats.specs.Float.{one}
 use Rattle.arithmetic.specs.Matrix.{at, grid}
 use Rattle.arithmetic.specs.Product.{diagonalEntry, identityM, addM}
 

@@ -5,10 +5,10 @@ use mathlib.Core.List.{List}
 use lib.IntN.{pos}
 use lib.Dec.{eqb}
 use lib.Ieee.{Float, Format, binary64, fin, round, mul, div, lt, le, ofInt}
-use Rattle.arithmetic.specs.Float.{one, epsilon, constant, powerOfTwo}
+use Rattle.floats.specs.Float.{one, epsilon, constant, powerOfTwo}
 use Rattle.arithmetic.specs.Product.{mulM, scaleM, timesM, addM, zeroM, minusIdentityM}
 use Rattle.arithmetic.specs.Norm.{norm1, frobenius}
-use Rattle.arithmetic.specs.Result.{Result, refused, done, _>>=_}
+use Rattle.questions.specs.Result.{Result, refused, done, _>>=_}
 use Rattle.functions.specs.Iterate.{Step, running, stopped, failed, after, verdict, ended}
 use Rattle.functions.specs.Roots.{newtonRoot}
 

@@ -6,11 +6,11 @@ use lib.IntN.{ℤ, pos, negsuc}
 use lib.Dec.{eqb}
 use lib.Ieee.{Float, Format, binary64, round}
 use lib.Ieee.Scale.{finite}
-use Rattle.arithmetic.specs.Float.{halvings, nearInteger, integerOf}
+use Rattle.floats.specs.Float.{halvings, nearInteger, integerOf}
 use Rattle.arithmetic.specs.Product.{mulM, identityM, squared, timesM}
 use Rattle.arithmetic.specs.Norm.{norm1}
-use Rattle.arithmetic.specs.Result.{Result, refused, done, _>>=_}
-use Rattle.lu.specs.Solve.{inverse}
+use Rattle.questions.specs.Result.{Result, refused, done, _>>=_}
+use Rattle.factoring.specs.Solve.{inverse}
 use Rattle.functions.specs.Exponential.{exponential}
 use Rattle.functions.specs.Roots.{orNotConverged}
 use Rattle.functions.specs.Logarithm.{logarithm}

@@ -6,13 +6,13 @@ use mathlib.Core.Option.{Option, none, some}
 use lib.IntN.{pos}
 use lib.Dec.{eqb}
 use lib.Ieee.{Float, Format, mul, div, lt, ofInt}
-use Rattle.arithmetic.specs.Float.{one, epsilon}
-use Rattle.arithmetic.specs.Root.{sqrtOf}
+use Rattle.floats.specs.Float.{one, epsilon}
+use Rattle.floats.specs.Root.{sqrtOf}
 use Rattle.arithmetic.specs.Matrix.{item}
 use Rattle.arithmetic.specs.Product.{identityM, diagonalM, meanM}
 use Rattle.arithmetic.specs.Norm.{trace, difference}
-use Rattle.arithmetic.specs.Result.{Result, refused, done, _>>=_}
-use Rattle.lu.specs.Solve.{division, inverse}
+use Rattle.questions.specs.Result.{Result, refused, done, _>>=_}
+use Rattle.factoring.specs.Solve.{division, inverse}
 use Rattle.functions.specs.Iterate.{Step, failed, after, verdict, ended}
 
 -- a step of the source that needs LU to succeed: nothing is refusal 13

@@ -3,10 +3,10 @@ use Prim.Native.Nat.{ℕ, zero, suc}
 use mathlib.Core.List.{List}
 use lib.IntN.{pos}
 use lib.Ieee.{Float, Format, binary64, add, div, ofInt}
-use Rattle.arithmetic.specs.Float.{one, constant, powerOfTwo}
+use Rattle.floats.specs.Float.{one, constant, powerOfTwo}
 use Rattle.arithmetic.specs.Product.{mulM, timesM, identityM, minusIdentityM, deductM, addMultipleM}
 use Rattle.arithmetic.specs.Norm.{norm1}
-use Rattle.arithmetic.specs.Result.{Result, done, _>>=_}
+use Rattle.questions.specs.Result.{Result, done, _>>=_}
 use Rattle.functions.specs.Exponential.{scaled}
 use Rattle.functions.specs.Powers.{halvingsFor}
 

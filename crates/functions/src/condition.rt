@@ -5,26 +5,26 @@ ghost use Prim.Native.Nat.{_*_, _+_, _≤_};
 ghost use lib.Dec.{ltb};
 ghost use lib.ListN.{length};
 ghost use lib.Ieee.{binary64, div, lt};
-ghost use Rattle.arithmetic.specs.Float.{+zero, one};
+ghost use Rattle.floats.specs.Float.{+zero, one};
 ghost use Rattle.arithmetic.specs.Norm.{frobenius};
 ghost use Rattle.arithmetic.specs.Workspace.{Room, Only, store};
-ghost use Rattle.arithmetic.specs.Answers.{numbered, reported};
-ghost use Rattle.arithmetic.specs.Result.{workspace};
+ghost use Rattle.questions.specs.Answers.{numbered, reported};
+ghost use Rattle.questions.specs.Result.{workspace};
 ghost use Rattle.functions.specs.Derivatives.{unitDirection, conditionOf, condExpM};
 ghost use Rattle.functions.specs.Conditions.{Rated, rated, Conditioned};
 ghost use Rattle.functions.specs.Calls.{condExpm};
 use crate::frechet::frechet_expm_in;
-use arithmetic::answer::Outcome;
-use arithmetic::answer::Question;
-use arithmetic::answer::Refusal;
-use arithmetic::float::of_small;
 use arithmetic::norm::sum_of_squares;
-use arithmetic::question::ask_cond_expm;
-use arithmetic::root::sqrt;
 use arithmetic::workspace::clear_where;
 use arithmetic::workspace::copy_out;
 use arithmetic::workspace::diagonal;
 use arithmetic::workspace::small_room;
+use floats::float::of_small;
+use floats::root::sqrt;
+use questions::answer::Outcome;
+use questions::answer::Question;
+use questions::answer::Refusal;
+use questions::question::ask_cond_expm;
 
 // The ratio of the norms, and the Frobenius norms of the derivative and of the exponential.
 pub struct Condition {

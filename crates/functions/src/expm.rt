@@ -3,19 +3,19 @@ ghost use mathlib.Core.List.{[], _∷_};
 ghost use lib.ListN.{length};
 ghost use lib.Ieee.{binary64};
 ghost use Rattle.arithmetic.specs.Workspace.{Room, slot};
-ghost use Rattle.arithmetic.specs.Outputs.{OneOutputIn, OneOutputWith, Replaced};
+ghost use Rattle.questions.specs.Outputs.{OneOutputIn, OneOutputWith, Replaced};
 ghost use Rattle.functions.specs.Powers.{expM};
 ghost use Rattle.functions.specs.Calls.{expm as expmOf};
 use crate::exponential::exponential_at;
 use crate::halvings::halvings_for;
-use arithmetic::answer::Answer;
-use arithmetic::answer::Outcome;
-use arithmetic::answer::Question;
-use arithmetic::answer::refused;
 use arithmetic::norm::norm_1;
-use arithmetic::output::deliver;
-use arithmetic::question::ask_expm;
 use arithmetic::workspace::copy_in;
+use questions::answer::Answer;
+use questions::answer::Outcome;
+use questions::answer::Question;
+use questions::answer::refused;
+use questions::output::deliver;
+use questions::question::ask_expm;
 
 // The exponential of the matrix of order n in slot 0 takes its place.
 pub fn expm_in(w: &mut [f64], n: usize) -> Outcome

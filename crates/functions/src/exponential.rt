@@ -5,10 +5,8 @@ ghost use Prim.Native.Nat.{_*_, _<_, _≤_};
 ghost use lib.ListN.{length};
 ghost use lib.Ieee.{binary64};
 ghost use Rattle.arithmetic.specs.Workspace.{Room, slot, store};
-ghost use Rattle.lu.specs.Solve.{standIn};
+ghost use Rattle.factoring.specs.Solve.{standIn};
 ghost use Rattle.functions.specs.Exponential.{nextCoefficient, Raised, Summed, Quotient, Approximated, Exponentiated, flip as flipOf};
-use arithmetic::float::inverse_power_of_two;
-use arithmetic::float::of_small;
 use arithmetic::matrix::copy_row;
 use arithmetic::workspace::accumulate;
 use arithmetic::workspace::copy;
@@ -18,10 +16,12 @@ use arithmetic::workspace::mult;
 use arithmetic::workspace::scale;
 use arithmetic::workspace::square;
 use arithmetic::workspace::zero;
-use lu::LuOutcome;
-use lu::part::quotient_or_numerator;
-use lu::room::pivot_room;
-use lu::workspace::divide;
+use factoring::LuOutcome;
+use factoring::part::quotient_or_numerator;
+use factoring::room::pivot_room;
+use floats::float::inverse_power_of_two;
+use floats::float::of_small;
+use systems::workspace::divide;
 
 // The Padé coefficient after c, which is coefficient k.
 pub fn next_coefficient(c: f64, k: usize) -> f64

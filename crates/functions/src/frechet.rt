@@ -5,20 +5,20 @@ ghost use lib.ListN.{length};
 ghost use lib.Ieee.{binary64};
 ghost use Rattle.arithmetic.specs.Matrix.{withRow};
 ghost use Rattle.arithmetic.specs.Workspace.{Room, slot, store};
-ghost use Rattle.arithmetic.specs.Outputs.{TwoOutputsIn, TwoOutputsWith};
+ghost use Rattle.questions.specs.Outputs.{TwoOutputsIn, TwoOutputsWith};
 ghost use Rattle.functions.specs.Exponential.{block, quarter, quarterRow};
 ghost use Rattle.functions.specs.Frechet.{FirstAlone, Quartered, Written};
 ghost use Rattle.functions.specs.Derivatives.{frechetExpM};
 ghost use Rattle.functions.specs.Calls.{frechetExpm};
 use crate::expm::expm_in;
-use arithmetic::answer::Answer;
-use arithmetic::answer::Outcome;
-use arithmetic::answer::Question;
-use arithmetic::answer::refused;
 use arithmetic::matrix::place;
-use arithmetic::question::ask_frechet_expm;
 use arithmetic::workspace::clear_where;
 use arithmetic::workspace::zero;
+use questions::answer::Answer;
+use questions::answer::Outcome;
+use questions::answer::Question;
+use questions::answer::refused;
+use questions::question::ask_frechet_expm;
 
 // Slot 0 becomes the block [A E; 0 A].
 pub fn fill_block(w: &mut [f64], n: usize, a: &[f64], e: &[f64])

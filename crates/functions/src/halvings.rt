@@ -1,13 +1,13 @@
 // How often a matrix is halved before its series, and question 12, which decides whether that is known.
 ghost use mathlib.Core.Path.{_≡_};
 ghost use Prim.Native.Nat.{ℕ, _≤_};
-ghost use Rattle.arithmetic.specs.Answers.{reported};
-ghost use Rattle.arithmetic.specs.Result.{done};
+ghost use Rattle.questions.specs.Answers.{reported};
+ghost use Rattle.questions.specs.Result.{done};
 ghost use Rattle.functions.specs.Powers.{halvingsReport};
-use arithmetic::answer::Outcome;
-use arithmetic::answer::Question;
-use arithmetic::float::halvings_of;
-use arithmetic::question::ask_norm;
+use floats::float::halvings_of;
+use questions::answer::Outcome;
+use questions::answer::Question;
+use questions::question::ask_norm;
 
 // The halvings that a norm sets, or refusal 12.
 pub fn halvings_for(norm: f64) -> Outcome

@@ -8,23 +8,23 @@ use lib.ListN.{length}
 use lib.Ieee.{Float, Format}
 use Rattle.arithmetic.specs.Matrix.{patch, part, put}
 use Rattle.arithmetic.specs.Workspace.{store, cleared, Only}
-use Rattle.arithmetic.specs.Result.{Result, outcome, exit, workspace}
-use Rattle.arithmetic.specs.Answers.{numbered, reported, found}
-use Rattle.arithmetic.specs.Questions.{asked, ofCompute}
-use Rattle.arithmetic.specs.declared.answer.Outcome.{Outcome}
-use Rattle.arithmetic.specs.declared.answer.Question.{Question}
-use Rattle.arithmetic.specs.declared.answer.Question.the-variants.{Passed, No}
-use Rattle.arithmetic.specs.declared.answer.Refusal.{Refusal}
+use Rattle.questions.specs.Result.{Result, outcome, exit, workspace}
+use Rattle.questions.specs.Answers.{numbered, reported, found}
+use Rattle.questions.specs.Questions.{asked, ofCompute}
+use Rattle.questions.specs.declared.answer.Outcome.{Outcome}
+use Rattle.questions.specs.declared.answer.Question.{Question}
+use Rattle.questions.specs.declared.answer.Question.the-variants.{Passed, No}
+use Rattle.questions.specs.declared.answer.Refusal.{Refusal}
 use Rattle.arithmetic.proofs.PatchLaws.{patch-all}
 use Rattle.arithmetic.proofs.PartLaws.{part-put, put-put}
 use Rattle.arithmetic.proofs.Slots.{only-run, cleared-only}
-use Rattle.arithmetic.proofs.AnswerLaws.{answer-passed, outcome-no, exit-no, workspace-no}
-use Rattle.lu.specs.Lu.{luAt, luPivot, luOutcome, luFactors, luPivots, columns, LuDoneIn}
-use Rattle.lu.specs.Solve.{standIn}
+use Rattle.questions.proofs.AnswerLaws.{answer-passed, outcome-no, exit-no, workspace-no}
+use Rattle.factoring.specs.Lu.{luAt, luPivot, luOutcome, luFactors, luPivots, columns, LuDoneIn}
+use Rattle.factoring.specs.Solve.{standIn}
 use Rattle.lu.specs.Calls.{Factorisation, factorised, compute, computeCall, luReport, FactoredCopy, Computing, Computed}
-use Rattle.lu.specs.declared.LuOutcome.{LuOutcome}
-use Rattle.lu.specs.declared.LuOutcome.the-variants.{Factored, Singular}
-use Rattle.lu.proofs.LuLaws.{length-luAt}
+use Rattle.factoring.specs.declared.LuOutcome.{LuOutcome}
+use Rattle.factoring.specs.declared.LuOutcome.the-variants.{Factored, Singular}
+use Rattle.factoring.proofs.LuLaws.{length-luAt}
 
 module _ (f : Format) (n : ℕ) (a w : List Float) (size : length a ≡ n * n) (room : n * n ≤ length w) where
   -- a copy stands where it was stored, and what replaces it replaces what stood there before

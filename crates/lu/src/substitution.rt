@@ -4,9 +4,9 @@ ghost use Prim.Native.Nat.{ℕ, _+_, _*_, _<_};
 ghost use lib.ListN.{length, getD};
 ghost use lib.Ieee.{binary64};
 ghost use Rattle.arithmetic.specs.Matrix.{patch, column};
-ghost use Rattle.lu.specs.Solve.{permuted, forwardStep, lowered, backStep, solved, withColumn, solvedMatrix, signOf, determinantOf, swaps, forward as forwardOf, back as backOf};
-use crate::workspace::load_column;
-use crate::workspace::store_column;
+ghost use Rattle.factoring.specs.Solve.{permuted, forwardStep, lowered, backStep, solved, withColumn, solvedMatrix, signOf, determinantOf, swaps, forward as forwardOf, back as backOf};
+use crate::column::load_column;
+use crate::column::store_column;
 use arithmetic::matrix::entry;
 
 // The swaps of the factoring, in their order.

@@ -6,16 +6,16 @@ use Prim.Native.Nat.{ℕ, _^_}
 use lib.IntN.{ℤ, pos, negsuc}
 use lib.Count.{trailingZeros}
 use lib.Ieee.{Float, Format, binary64, ofBits, ofFields, odd, round, units, size}
-use Rattle.arithmetic.specs.Float.{nearInteger, integerOf}
+use Rattle.floats.specs.Float.{nearInteger, integerOf}
 use Rattle.arithmetic.specs.Product.{timesM}
 use Rattle.arithmetic.specs.Workspace.{Room, slot, store, member}
-use Rattle.arithmetic.specs.Result.{Result}
-use Rattle.arithmetic.specs.Outputs.{Replaced}
-use Rattle.arithmetic.specs.declared.answer.Outcome.{Outcome}
+use Rattle.questions.specs.Result.{Result}
+use Rattle.questions.specs.Outputs.{Replaced}
+use Rattle.questions.specs.declared.answer.Outcome.{Outcome}
 use Rattle.arithmetic.proofs.Slots.{only-trans}
 use Rattle.arithmetic.proofs.States.{start, held-at, step-times, step-copy}
-use Rattle.arithmetic.proofs.OutputLaws.{Late, late-bind}
-use Rattle.lu.specs.Solve.{inverse}
+use Rattle.questions.proofs.OutputLaws.{Late, late-bind}
+use Rattle.factoring.specs.Solve.{inverse}
 use Rattle.functions.specs.Roots.{orNotConverged}
 use Rattle.functions.specs.Logarithm.{logarithm}
 use Rattle.functions.specs.Powers.{expM, wholePower, fractionalPower, isWhole, powerM}

@@ -5,14 +5,14 @@ use mathlib.Core.Bool.{true}
 use Prim.Native.Nat.{ℕ}
 use lib.Ieee.{Float}
 use Rattle.arithmetic.specs.Workspace.{slot, member, Only}
-use Rattle.arithmetic.specs.Result.{Result, done, _>>=_, outcome, exit}
-use Rattle.arithmetic.specs.Outputs.{Replaced}
-use Rattle.arithmetic.specs.declared.answer.Refusal.{Refusal}
-use Rattle.arithmetic.specs.declared.answer.Outcome.{Outcome}
-use Rattle.arithmetic.specs.declared.answer.Outcome.the-variants.{Done, Refused}
+use Rattle.questions.specs.Result.{Result, done, _>>=_, outcome, exit}
+use Rattle.questions.specs.Outputs.{Replaced}
+use Rattle.questions.specs.declared.answer.Refusal.{Refusal}
+use Rattle.questions.specs.declared.answer.Outcome.{Outcome}
+use Rattle.questions.specs.declared.answer.Outcome.the-variants.{Done, Refused}
 use Rattle.arithmetic.proofs.Slots.{only-trans, only-more}
 use Rattle.arithmetic.proofs.States.{among, member-among}
-use Rattle.arithmetic.proofs.BothLaws.{call-done, call-refused}
+use Rattle.questions.proofs.BothLaws.{call-done, call-refused}
 
 -- what cannot be refused
 pub replaced-by : (ss : List ℕ) (n s : ℕ) (v w w′ : List Float) → slot n w′ 0 ≡ v → Only (member ss) w w′ → Replaced ss n (done s v) (Done s) w w′

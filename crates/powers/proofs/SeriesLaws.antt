@@ -7,7 +7,7 @@ use native.Mathlib.Numerals.{add-one}
 use native.Mathlib.Omega.{arith}
 use lib.Count.{trailingZeros}
 use lib.Ieee.{Float, Format, binary64, add, ofBits, ofFields, odd}
-use Rattle.arithmetic.specs.Float.{one, powerOfTwo, inversePowerOfTwo}
+use Rattle.floats.specs.Float.{one, powerOfTwo, inversePowerOfTwo}
 use Rattle.arithmetic.specs.Product.{mulM, timesM, scaleM, identityM, minusIdentityM, deductM, accumulateM, addMultipleM}
 use Rattle.arithmetic.specs.Workspace.{Room, slot, store, member, Only}
 use Rattle.arithmetic.specs.Norm.{norm1}
@@ -15,7 +15,7 @@ use Rattle.arithmetic.proofs.MatrixLaws.{square-le}
 use Rattle.arithmetic.proofs.ProductLaws.{accumulateM-comm, length-mulM, length-timesM}
 use Rattle.arithmetic.proofs.Slots.{picks, slot-store, room-kept, room-within, member-here, member-next, only-refl, only-trans, only-more, only-store, slot-only}
 use Rattle.arithmetic.proofs.States.{start, held-at, step-mult, step-identity, step-deduct, step-accumulate, step-minus-identity, step-scale, step-copy, step-call, member-among}
-use Rattle.arithmetic.proofs.OutputLaws.{Late}
+use Rattle.questions.proofs.OutputLaws.{Late}
 use Rattle.functions.specs.Exponential.{scaled}
 use Rattle.functions.proofs.HalvingLaws.{halvings-late}
 use Rattle.functions.specs.Trigonometric.{oneOver, cosineTo6, cosineTo8, cosineBeside, sineTo7, cosineDoubled, sineDoubled, cosineAt, sineAt, trigonometricHalvings, cosM, sinM}

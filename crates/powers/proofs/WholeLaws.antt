@@ -16,20 +16,20 @@ use mir.Syntax.{w64}
 use mir.Val.{Fits, SFits, toZ, ofZ}
 use mir.ValLaws.{toZ-ofZ}
 use lib.Ieee.{Float, Format}
-use Rattle.lu.specs.declared.LuOutcome.{LuOutcome}
-use Rattle.lu.specs.declared.LuOutcome.the-variants.{Factored, Singular}
-use Rattle.arithmetic.specs.declared.answer.Refusal.the-variants.{NotConverged}
-use Rattle.arithmetic.specs.declared.answer.Outcome.the-variants.{Done, Refused}
+use Rattle.factoring.specs.declared.LuOutcome.{LuOutcome}
+use Rattle.factoring.specs.declared.LuOutcome.the-variants.{Factored, Singular}
+use Rattle.questions.specs.declared.answer.Refusal.the-variants.{NotConverged}
+use Rattle.questions.specs.declared.answer.Outcome.the-variants.{Done, Refused}
 use Rattle.arithmetic.specs.Product.{mulM, identityM, squared}
 use Rattle.arithmetic.specs.Workspace.{Room, slot, store, member, Only, Squared}
-use Rattle.arithmetic.specs.Result.{done, outcome, exit}
-use Rattle.arithmetic.specs.Outputs.{Replaced}
-use Rattle.arithmetic.proofs.Order.{split}
+use Rattle.questions.specs.Result.{done, outcome, exit}
+use Rattle.questions.specs.Outputs.{Replaced}
+use Rattle.floats.proofs.Order.{split}
 use Rattle.arithmetic.proofs.Slots.{only-refl, only-trans, only-more, room-kept}
 use Rattle.arithmetic.proofs.States.{State, held, upd, start, held-at, step-identity, step-mult, step-copy, member-among}
-use Rattle.lu.specs.Lu.{luOutcome}
-use Rattle.lu.specs.Solve.{divided, division, inverse, quotient, whereFactored}
-use Rattle.lu.proofs.DivisionLaws.{divided-slot, divided-only}
+use Rattle.factoring.specs.Lu.{luOutcome}
+use Rattle.factoring.specs.Solve.{divided, division, inverse, quotient, whereFactored}
+use Rattle.factoring.proofs.DivisionLaws.{divided-slot, divided-only}
 use Rattle.functions.specs.Roots.{orNotConverged}
 use Rattle.functions.specs.Powers.{bitPower, wholePower}
 use Rattle.powers.specs.Whole.{BitMultiplied, BitsMultiplied, AllMultiplied, BitPowered, isNegative, negativePower}

@@ -3,7 +3,7 @@ use Prim.Native.Nat.{ℕ}
 use mathlib.Core.Path.{_≡_}
 use mathlib.Core.List.{List, [], _∷_}
 use lib.Ieee.{Float, Format}
-use Rattle.arithmetic.specs.Float.{powerOfTwo}
+use Rattle.floats.specs.Float.{powerOfTwo}
 use Rattle.arithmetic.specs.Product.{mulM, timesM, minusIdentityM, deductM, addMultipleM}
 use Rattle.arithmetic.specs.Workspace.{slot, member, Only}
 use Rattle.functions.specs.Trigonometric.{oneOver, cosineTo6, cosineTo8, cosineBeside, sineTo7, cosineDoubled, sineDoubled, cosineAt, sineAt}

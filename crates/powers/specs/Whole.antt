@@ -8,8 +8,8 @@ use lib.IntN.{ℤ, pos, negsuc}
 use lib.Ieee.{Float, Format}
 use Rattle.arithmetic.specs.Product.{mulM, timesM, squared}
 use Rattle.arithmetic.specs.Workspace.{slot, member, Only}
-use Rattle.arithmetic.specs.Result.{Result, done, _>>=_}
-use Rattle.lu.specs.Solve.{inverse}
+use Rattle.questions.specs.Result.{Result, done, _>>=_}
+use Rattle.factoring.specs.Solve.{inverse}
 use Rattle.functions.specs.Roots.{orNotConverged}
 use Rattle.functions.specs.Powers.{expM, bitPower}
 

@@ -1,18 +1,18 @@
 // The public calls of cosine, sine and powers. Each asks its questions first, and a refusal leaves output and workspace as they were lent.
 ghost use lib.ListN.{length};
 ghost use lib.Ieee.{binary64};
-ghost use Rattle.arithmetic.specs.Outputs.{OneOutputIn, OneOutputWith};
+ghost use Rattle.questions.specs.Outputs.{OneOutputIn, OneOutputWith};
 ghost use Rattle.functions.specs.Calls.{cosm as cosmOf, sinm as sinmOf, powm as powmOf};
 use crate::cosine::cosm_in;
 use crate::power::powm_in;
 use crate::sine::sinm_in;
-use arithmetic::answer::Answer;
-use arithmetic::answer::Question;
-use arithmetic::answer::refused;
-use arithmetic::output::deliver;
-use arithmetic::question::ask_expm;
-use arithmetic::question::ask_powm;
 use arithmetic::workspace::copy_in;
+use questions::answer::Answer;
+use questions::answer::Question;
+use questions::answer::refused;
+use questions::output::deliver;
+use questions::question::ask_expm;
+use questions::question::ask_powm;
 
 // `cosm`, where the workspace is cleared only if `clears` is true.
 pub fn cosm_with(

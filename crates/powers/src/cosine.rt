@@ -6,12 +6,9 @@ ghost use mathlib.Core.List.{[], _∷_};
 ghost use lib.Dec.{eqb};
 ghost use lib.Ieee.{binary64};
 ghost use Rattle.arithmetic.specs.Workspace.{Room, slot};
-ghost use Rattle.arithmetic.specs.Outputs.{Replaced};
+ghost use Rattle.questions.specs.Outputs.{Replaced};
 ghost use Rattle.functions.specs.Trigonometric.{oneOver, cosM};
 ghost use Rattle.powers.specs.Series.{EvenPowers, Sixth, Beside, Eighth, Doubled, CosineDoubled, CosineAfter, CosineRun};
-use arithmetic::answer::Outcome;
-use arithmetic::float::inverse_power_of_two;
-use arithmetic::float::of_small;
 use arithmetic::norm::norm_1;
 use arithmetic::workspace::accumulate;
 use arithmetic::workspace::copy;
@@ -21,7 +18,10 @@ use arithmetic::workspace::minus_identity;
 use arithmetic::workspace::mult;
 use arithmetic::workspace::scale;
 use arithmetic::workspace::times;
+use floats::float::inverse_power_of_two;
+use floats::float::of_small;
 use functions::halvings::halvings_for;
+use questions::answer::Outcome;
 
 // The rounded reciprocal of k.
 pub fn one_over(k: usize) -> f64

@@ -3,16 +3,16 @@
 ghost use mathlib.Core.List.{[], _∷_};
 ghost use lib.Ieee.{binary64};
 ghost use Rattle.arithmetic.specs.Workspace.{Room, slot};
-ghost use Rattle.arithmetic.specs.Outputs.{Replaced};
+ghost use Rattle.questions.specs.Outputs.{Replaced};
 ghost use Rattle.functions.specs.Powers.{fractionalPower, powerM};
 ghost use Rattle.powers.specs.Whole.{multipleExponential};
 use crate::whole::whole_power;
-use arithmetic::answer::Outcome;
-use arithmetic::float::integer_of;
-use arithmetic::float::is_integer;
 use arithmetic::workspace::copy;
 use arithmetic::workspace::times;
+use floats::float::integer_of;
+use floats::float::is_integer;
 use functions::expm::expm_in;
+use questions::answer::Outcome;
 use roots::logarithm::logm_in;
 
 // The exponential of p times the matrix in slot 0 takes its place, with no halvings reported.

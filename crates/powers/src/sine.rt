@@ -3,21 +3,21 @@ ghost use Prim.Native.Nat.{_≤_};
 ghost use mathlib.Core.List.{[], _∷_};
 ghost use lib.Ieee.{binary64};
 ghost use Rattle.arithmetic.specs.Workspace.{Room, slot};
-ghost use Rattle.arithmetic.specs.Outputs.{Replaced};
+ghost use Rattle.questions.specs.Outputs.{Replaced};
 ghost use Rattle.functions.specs.Trigonometric.{sinM};
 ghost use Rattle.powers.specs.Series.{OddPowers, Seventh, BothSeries, BothDoubled, BothAfter, SineRun};
 use crate::cosine::cosine_beside;
 use crate::cosine::double;
 use crate::cosine::one_over;
-use arithmetic::answer::Outcome;
-use arithmetic::float::inverse_power_of_two;
 use arithmetic::norm::norm_1;
 use arithmetic::workspace::accumulate;
 use arithmetic::workspace::deduct;
 use arithmetic::workspace::minus_identity;
 use arithmetic::workspace::mult;
 use arithmetic::workspace::scale;
+use floats::float::inverse_power_of_two;
 use functions::halvings::halvings_for;
+use questions::answer::Outcome;
 
 // The odd powers of X, by X2 in slot 1.
 pub fn odd_powers(w: &mut [f64], n: usize)

@@ -6,20 +6,20 @@ ghost use lib.ListN.{length};
 ghost use lib.Ieee.{binary64};
 ghost use Rattle.arithmetic.specs.Product.{identityM};
 ghost use Rattle.arithmetic.specs.Workspace.{Room, slot};
-ghost use Rattle.arithmetic.specs.Outputs.{Replaced};
-ghost use Rattle.lu.specs.Solve.{inverse};
+ghost use Rattle.questions.specs.Outputs.{Replaced};
+ghost use Rattle.factoring.specs.Solve.{inverse};
 ghost use Rattle.functions.specs.Roots.{orNotConverged};
 ghost use Rattle.functions.specs.Powers.{wholePower};
 ghost use Rattle.powers.specs.Whole.{BitMultiplied, AllMultiplied, BitPowered, isNegative, negativePower};
-use arithmetic::answer::Outcome;
-use arithmetic::answer::Refusal;
 use arithmetic::workspace::copy;
 use arithmetic::workspace::identity;
 use arithmetic::workspace::mult;
 use arithmetic::workspace::square;
-use lu::LuOutcome;
-use lu::room::pivot_room;
-use lu::workspace::invert;
+use factoring::LuOutcome;
+use factoring::room::pivot_room;
+use questions::answer::Outcome;
+use questions::answer::Refusal;
+use systems::workspace::invert;
 
 // The product is multiplied by slot 0 where the lowest bit of `rest` is set.
 fn multiply_bit(w: &mut [f64], n: usize, rest: u64)

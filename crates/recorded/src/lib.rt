@@ -7,8 +7,8 @@ pub mod call;
 pub mod outcome;
 pub mod tally;
 
-use arithmetic::float::bits_of;
-use arithmetic::float::float_of;
+use floats::float::bits_of;
+use floats::float::float_of;
 
 // A number, and where the next one starts.
 pub struct Number {

@@ -6,9 +6,9 @@ use crate::begins;
 use crate::same_counts;
 use crate::same_numbers;
 use crate::word;
-use arithmetic::answer::Outcome;
-use arithmetic::answer::Refusal;
-use arithmetic::float::bits_of;
+use floats::float::bits_of;
+use questions::answer::Outcome;
+use questions::answer::Refusal;
 
 // An outcome: number 0 and the halvings, or the refusal's number and its two details.
 struct Report {

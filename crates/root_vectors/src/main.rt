@@ -1,7 +1,7 @@
 // Runs the recorded square roots that it reads on standard input: a number's bits and its root's, a pair to a line.
 // It writes how many there are and how many differ.
-use arithmetic::float::float_of;
-use arithmetic::root::sqrt;
+use floats::float::float_of;
+use floats::root::sqrt;
 use recorded::has_bits;
 use recorded::word;
 

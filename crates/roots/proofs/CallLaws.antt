@@ -6,13 +6,13 @@ use mathlib.Core.List.{List, [], _∷_}
 use mathlib.Core.Option.{Option, none, some}
 use lib.Dec.{eqb}
 use lib.Ieee.{Float, Format}
-use Rattle.arithmetic.specs.Root.{sqrtOf}
+use Rattle.floats.specs.Root.{sqrtOf}
 use Rattle.arithmetic.specs.Matrix.{item}
 use Rattle.arithmetic.specs.Product.{accumulateM, transposeM}
-use Rattle.arithmetic.specs.Result.{done, _>>=_}
-use Rattle.arithmetic.proofs.OutputLaws.{Late, late-bind}
-use Rattle.lu.specs.Lu.{luOutcome, luFactors, luPivots}
-use Rattle.lu.specs.Solve.{solved, whereFactored}
+use Rattle.questions.specs.Result.{done, _>>=_}
+use Rattle.questions.proofs.OutputLaws.{Late, late-bind}
+use Rattle.factoring.specs.Lu.{luOutcome, luFactors, luPivots}
+use Rattle.factoring.specs.Solve.{solved, whereFactored}
 use Rattle.functions.specs.Iterate.{Step, running, stopped, failed, ended}
 use Rattle.functions.specs.Roots.{orNotConverged, denmanBeavers, squareRoot}
 use Rattle.functions.specs.Logarithm.{rooting, series, logarithm}

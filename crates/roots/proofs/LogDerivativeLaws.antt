@@ -5,12 +5,12 @@ use mathlib.Core.List.{List, [], _∷_}
 use lib.Ieee.{Float, Format}
 use Rattle.arithmetic.specs.Product.{accumulateM, differenceQuotientM}
 use Rattle.arithmetic.specs.Workspace.{Room, slot, store, member, Only}
-use Rattle.arithmetic.specs.Result.{done, _>>=_, outcome, exit}
-use Rattle.arithmetic.specs.Outputs.{Replaced, ReplacedBoth}
-use Rattle.arithmetic.specs.declared.answer.Outcome.{Outcome}
-use Rattle.arithmetic.specs.declared.answer.Outcome.the-variants.{Done, Refused}
-use Rattle.arithmetic.specs.declared.answer.Refusal.{Refusal}
-use Rattle.arithmetic.proofs.BothLaws.{call-done}
+use Rattle.questions.specs.Result.{done, _>>=_, outcome, exit}
+use Rattle.questions.specs.Outputs.{Replaced, ReplacedBoth}
+use Rattle.questions.specs.declared.answer.Outcome.{Outcome}
+use Rattle.questions.specs.declared.answer.Outcome.the-variants.{Done, Refused}
+use Rattle.questions.specs.declared.answer.Refusal.{Refusal}
+use Rattle.questions.proofs.BothLaws.{call-done}
 use Rattle.arithmetic.proofs.Slots.{only-trans, only-more}
 use Rattle.arithmetic.proofs.States.{start, step-copy, step-accumulate, step-difference-quotient, step-call, held-at, member-among}
 use Rattle.functions.specs.Logarithm.{logarithm}

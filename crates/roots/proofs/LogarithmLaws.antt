@@ -6,14 +6,14 @@ use mathlib.Core.Path.{_≡_, refl, sym, ap, _∙_}
 use mathlib.Core.Bool.{Bool, true, false, cond}
 use mathlib.Core.List.{List, [], _∷_}
 use lib.Ieee.{Float, Format, le, mul}
-use Rattle.arithmetic.specs.Float.{epsilon, powerOfTwo}
+use Rattle.floats.specs.Float.{epsilon, powerOfTwo}
 use Rattle.arithmetic.specs.Product.{mulM, scaleM, timesM, addM, zeroM, minusIdentityM}
 use Rattle.arithmetic.specs.Norm.{frobenius}
 use Rattle.arithmetic.specs.Workspace.{Room, slot, store, member, Only}
-use Rattle.arithmetic.specs.Result.{Result, done, refused, _>>=_, outcome, exit}
-use Rattle.arithmetic.specs.Outputs.{Replaced}
-use Rattle.arithmetic.specs.declared.answer.Outcome.the-variants as outcomes
-use Rattle.arithmetic.specs.declared.answer.Refusal.the-variants.{NotConverged}
+use Rattle.questions.specs.Result.{Result, done, refused, _>>=_, outcome, exit}
+use Rattle.questions.specs.Outputs.{Replaced}
+use Rattle.questions.specs.declared.answer.Outcome.the-variants as outcomes
+use Rattle.questions.specs.declared.answer.Refusal.the-variants.{NotConverged}
 use Rattle.arithmetic.proofs.MatrixLaws.{square-le}
 use Rattle.arithmetic.proofs.ProductLaws.{length-scaleM}
 use Rattle.arithmetic.proofs.Slots.{only-refl, only-trans, only-more, slot-only, length-slot}

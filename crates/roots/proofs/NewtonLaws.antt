@@ -7,17 +7,17 @@ use mathlib.Core.List.{List, [], _∷_}
 use mathlib.Core.Option.{none, some}
 use lib.IntN.{pos}
 use lib.Ieee.{Float, Format, binary64, lt, div, ofInt, ofBits}
-use Rattle.arithmetic.specs.Float.{one, epsilon}
-use Rattle.arithmetic.specs.Root.{sqrtOf}
+use Rattle.floats.specs.Float.{one, epsilon}
+use Rattle.floats.specs.Root.{sqrtOf}
 use Rattle.arithmetic.specs.Product.{meanM, diagonalM}
 use Rattle.arithmetic.specs.Norm.{difference, trace}
 use Rattle.arithmetic.specs.Workspace.{Room, slot, store, member, Only}
 use Rattle.arithmetic.proofs.MatrixLaws.{square-le}
 use Rattle.arithmetic.proofs.Slots.{slot-only, only-trans, only-more}
 use Rattle.arithmetic.proofs.States.{start, step-mean, step-copy, step-call, step-diagonal, held-at, member-among}
-use Rattle.lu.specs.declared.LuOutcome.{LuOutcome}
-use Rattle.lu.specs.declared.LuOutcome.the-variants.{Factored, Singular}
-use Rattle.lu.specs.Solve.{division, whereFactored}
+use Rattle.factoring.specs.declared.LuOutcome.{LuOutcome}
+use Rattle.factoring.specs.declared.LuOutcome.the-variants.{Factored, Singular}
+use Rattle.factoring.specs.Solve.{division, whereFactored}
 use Rattle.functions.specs.Iterate.{after, verdict}
 use Rattle.functions.specs.Roots.{rootTolerance, newtonNext, newtonStep, newtonScale, newtonStart, newton}
 use Rattle.roots.specs.Passes.{asStep, tested, OnePass, Passes, Quotient, NewtonMean, NewtonRoot}

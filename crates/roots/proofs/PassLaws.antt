@@ -6,18 +6,18 @@ use mathlib.Core.List.{List}
 use mathlib.Core.Option.{some}
 use lib.Dec.{eqb}
 use lib.Ieee.{Float, Format, sub}
-use Rattle.arithmetic.specs.Root.{sqrtOf}
+use Rattle.floats.specs.Root.{sqrtOf}
 use Rattle.arithmetic.specs.Matrix.{part, tab, item}
 use Rattle.arithmetic.specs.Norm.{sumOfSquares, frobenius, difference}
-use Rattle.arithmetic.specs.Result.{done, refused}
+use Rattle.questions.specs.Result.{done, refused}
 use Rattle.arithmetic.specs.Workspace.{Room, slot, member, Only}
 use Rattle.arithmetic.proofs.ProductLaws.{subM-parts}
 use Rattle.arithmetic.proofs.Slots.{only-refl, only-trans}
-use Rattle.lu.specs.declared.LuOutcome.{LuOutcome}
-use Rattle.lu.specs.declared.LuOutcome.the-variants.{Factored, Singular}
-use Rattle.lu.specs.Lu.{luOutcome}
-use Rattle.lu.specs.Solve.{divided, standIn, quotient, division, whereFactored}
-use Rattle.lu.proofs.DivisionLaws.{divided-slot, divided-only}
+use Rattle.factoring.specs.declared.LuOutcome.{LuOutcome}
+use Rattle.factoring.specs.declared.LuOutcome.the-variants.{Factored, Singular}
+use Rattle.factoring.specs.Lu.{luOutcome}
+use Rattle.factoring.specs.Solve.{divided, standIn, quotient, division, whereFactored}
+use Rattle.factoring.proofs.DivisionLaws.{divided-slot, divided-only}
 use Rattle.functions.specs.Iterate.{Step, running, after, verdict, ended}
 use Rattle.roots.specs.Passes.{asStep, tested, answered, OnePass, Passes, Quotient}
 use Rattle.roots.specs.declared.pass.Pass.{Pass}

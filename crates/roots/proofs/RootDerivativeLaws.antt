@@ -14,24 +14,24 @@ use lib.Ieee.{Float, Format, nan}
 use Rattle.arithmetic.specs.Matrix.{item, at, part, put, tab, column}
 use Rattle.arithmetic.specs.Product.{transposeM}
 use Rattle.arithmetic.specs.Workspace.{Room, slot, store, member, Only}
-use Rattle.arithmetic.specs.Result.{Result, refused, done, _>>=_, outcome, exit}
-use Rattle.arithmetic.specs.Outputs.{Both, Replaced, ReplacedBoth}
-use Rattle.arithmetic.specs.declared.answer.Outcome.{Outcome}
-use Rattle.arithmetic.specs.declared.answer.Outcome.the-variants.{Done, Refused}
-use Rattle.arithmetic.specs.declared.answer.Refusal.{Refusal}
-use Rattle.arithmetic.specs.declared.answer.Refusal.the-variants.{NotConverged}
-use Rattle.arithmetic.proofs.BothLaws.{call-done}
+use Rattle.questions.specs.Result.{Result, refused, done, _>>=_, outcome, exit}
+use Rattle.questions.specs.Outputs.{Both, Replaced, ReplacedBoth}
+use Rattle.questions.specs.declared.answer.Outcome.{Outcome}
+use Rattle.questions.specs.declared.answer.Outcome.the-variants.{Done, Refused}
+use Rattle.questions.specs.declared.answer.Refusal.{Refusal}
+use Rattle.questions.specs.declared.answer.Refusal.the-variants.{NotConverged}
+use Rattle.questions.proofs.BothLaws.{call-done}
 use Rattle.arithmetic.proofs.MatrixLaws.{square-le, tab-is, length-grid, grid-is}
 use Rattle.arithmetic.proofs.PartLaws.{length-part, length-put, part-put, part-put-apart, returned}
 use Rattle.arithmetic.proofs.Slots.{only-trans, only-more, only-run, only-store, slot-only, slot-store}
 use Rattle.arithmetic.proofs.States.{Held, start, step-store, step-transpose, step-call, held-at, member-among}
-use Rattle.lu.specs.declared.LuOutcome.{LuOutcome}
-use Rattle.lu.specs.declared.LuOutcome.the-variants.{Factored, Singular}
-use Rattle.lu.specs.Lu.{luOutcome, luFactors, luPivots, luAt}
-use Rattle.lu.specs.Solve.{permuted, forward, solved, solvedMatrix, divided, standIn, whereFactored}
-use Rattle.lu.proofs.LuLaws.{length-luAt}
-use Rattle.lu.proofs.SolveLaws.{length-permuted, length-forward, length-back}
-use Rattle.lu.proofs.DivisionLaws.{length-solvedMatrix}
+use Rattle.factoring.specs.declared.LuOutcome.{LuOutcome}
+use Rattle.factoring.specs.declared.LuOutcome.the-variants.{Factored, Singular}
+use Rattle.factoring.specs.Lu.{luOutcome, luFactors, luPivots, luAt}
+use Rattle.factoring.specs.Solve.{permuted, forward, solved, solvedMatrix, divided, standIn, whereFactored}
+use Rattle.factoring.proofs.LuLaws.{length-luAt}
+use Rattle.factoring.proofs.SolveLaws.{length-permuted, length-forward, length-back}
+use Rattle.factoring.proofs.DivisionLaws.{length-solvedMatrix}
 use Rattle.functions.specs.Roots.{orNotConverged, squareRoot}
 use Rattle.functions.specs.Derivatives.{sylvesterMatrix, sylvester, scalarDerivative, rootDerivative, frechetSqrtM}
 use Rattle.roots.specs.Frechet.{systemSlots, SystemSolved, whereAccepted, derivedSlots, Derived}

@@ -8,20 +8,20 @@ use mathlib.Core.Option.{Option, none, some}
 use lib.ListN.{set}
 use lib.Ieee.{Float, Format, lt}
 use borrow.Author.Tests.{ne-eqb}
-use Rattle.arithmetic.specs.Root.{sqrtOf}
+use Rattle.floats.specs.Root.{sqrtOf}
 use Rattle.arithmetic.specs.Matrix.{item, part, put, tab}
 use Rattle.arithmetic.specs.Product.{meanM, identityM}
 use Rattle.arithmetic.specs.Norm.{difference}
 use Rattle.arithmetic.specs.Workspace.{Room, slot, store, member, Only}
-use Rattle.arithmetic.specs.Result.{Result, done, refused, _>>=_, outcome, exit}
-use Rattle.arithmetic.specs.Outputs.{Replaced}
-use Rattle.arithmetic.specs.declared.answer.Outcome.the-variants.{Done, Refused}
-use Rattle.arithmetic.specs.declared.answer.Refusal.the-variants.{NotConverged}
+use Rattle.questions.specs.Result.{Result, done, refused, _>>=_, outcome, exit}
+use Rattle.questions.specs.Outputs.{Replaced}
+use Rattle.questions.specs.declared.answer.Outcome.the-variants.{Done, Refused}
+use Rattle.questions.specs.declared.answer.Refusal.the-variants.{NotConverged}
 use Rattle.arithmetic.proofs.Slots.{only-trans, only-more, only-store, slot-store}
 use Rattle.arithmetic.proofs.States.{start, step-mean, step-copy, step-call, step-identity, held-at, member-among}
-use Rattle.lu.specs.declared.LuOutcome.{LuOutcome}
-use Rattle.lu.specs.declared.LuOutcome.the-variants.{Factored, Singular}
-use Rattle.lu.specs.Solve.{division, inverse, whereFactored}
+use Rattle.factoring.specs.declared.LuOutcome.{LuOutcome}
+use Rattle.factoring.specs.declared.LuOutcome.the-variants.{Factored, Singular}
+use Rattle.factoring.specs.Solve.{division, inverse, whereFactored}
 use Rattle.functions.specs.Iterate.{after, verdict, ended}
 use Rattle.functions.specs.Roots.{rootTolerance, Pair, denmanBeaversNext, denmanBeaversStep, denmanBeavers, squareRoot}
 use Rattle.roots.specs.Passes.{asStep, tested, answered, OnePass, Passes, Quotient, pairIn, Means, SecondInverse}

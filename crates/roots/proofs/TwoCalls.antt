@@ -4,13 +4,13 @@ use mathlib.Core.Path.{_≡_, sym, ap, _∙_}
 use mathlib.Core.List.{List}
 use lib.Ieee.{Float}
 use Rattle.arithmetic.specs.Workspace.{slot, member, Only}
-use Rattle.arithmetic.specs.Result.{Result, refused, done, _>>=_, outcome, exit}
-use Rattle.arithmetic.specs.Answers.{reported}
-use Rattle.arithmetic.specs.Outputs.{Both, ReplacedBoth}
-use Rattle.arithmetic.specs.declared.answer.Outcome.{Outcome}
-use Rattle.arithmetic.specs.declared.answer.Outcome.the-variants.{Refused}
-use Rattle.arithmetic.specs.declared.answer.Refusal.{Refusal}
-use Rattle.arithmetic.proofs.BothLaws.{call-refused}
+use Rattle.questions.specs.Result.{Result, refused, done, _>>=_, outcome, exit}
+use Rattle.questions.specs.Answers.{reported}
+use Rattle.questions.specs.Outputs.{Both, ReplacedBoth}
+use Rattle.questions.specs.declared.answer.Outcome.{Outcome}
+use Rattle.questions.specs.declared.answer.Outcome.the-variants.{Refused}
+use Rattle.questions.specs.declared.answer.Refusal.{Refusal}
+use Rattle.questions.proofs.BothLaws.{call-refused}
 use Rattle.arithmetic.proofs.Slots.{only-trans}
 
 -- Where the first of two calls refuses, with y, both outputs stay as they are.

@@ -6,12 +6,12 @@ use mathlib.Core.List.{List, [], _∷_}
 use lib.Dec.{eqb}
 use lib.Ieee.{Float, Format, add}
 use Rattle.arithmetic.specs.Product.{accumulateM, differenceQuotientM}
-use Rattle.arithmetic.specs.Result.{Result, refused, done, _>>=_}
-use Rattle.arithmetic.specs.Outputs.{Both}
+use Rattle.questions.specs.Result.{Result, refused, done, _>>=_}
+use Rattle.questions.specs.Outputs.{Both}
 use Rattle.arithmetic.specs.Workspace.{slot, member, Only}
-use Rattle.lu.specs.declared.LuOutcome.{LuOutcome}
-use Rattle.lu.specs.Lu.{luOutcome, luFactors, luPivots}
-use Rattle.lu.specs.Solve.{solved, whereFactored}
+use Rattle.factoring.specs.declared.LuOutcome.{LuOutcome}
+use Rattle.factoring.specs.Lu.{luOutcome, luFactors, luPivots}
+use Rattle.factoring.specs.Solve.{solved, whereFactored}
 use Rattle.functions.specs.Logarithm.{logarithm}
 use Rattle.functions.specs.Derivatives.{logStep}
 

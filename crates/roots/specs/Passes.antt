@@ -6,8 +6,8 @@ use mathlib.Core.List.{List, [], _∷_}
 use mathlib.Core.Option.{some}
 use lib.Ieee.{Float, Format}
 use Rattle.arithmetic.specs.Workspace.{slot, member, Only}
-use Rattle.lu.specs.declared.LuOutcome.{LuOutcome}
-use Rattle.lu.specs.Solve.{division, inverse, whereFactored}
+use Rattle.factoring.specs.declared.LuOutcome.{LuOutcome}
+use Rattle.factoring.specs.Solve.{division, inverse, whereFactored}
 use Rattle.functions.specs.Iterate.{Step, running, stopped, failed, after}
 use Rattle.functions.specs.Roots.{newtonNext, newton, Pair, denmanBeaversNext}
 use Rattle.roots.specs.declared.pass.Pass.{Pass}

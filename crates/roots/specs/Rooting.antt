@@ -3,9 +3,9 @@ use Prim.Native.Nat.{ℕ, suc, _≤_}
 use mathlib.Core.Path.{_≡_}
 use mathlib.Core.List.{List, [], _∷_}
 use lib.Ieee.{Float, Format}
-use Rattle.arithmetic.specs.Float.{powerOfTwo}
+use Rattle.floats.specs.Float.{powerOfTwo}
 use Rattle.arithmetic.specs.Product.{scaleM, minusIdentityM}
-use Rattle.arithmetic.specs.Result.{Result, refused, done, _>>=_}
+use Rattle.questions.specs.Result.{Result, refused, done, _>>=_}
 use Rattle.arithmetic.specs.Workspace.{slot, member, Only}
 use Rattle.functions.specs.Iterate.{Step, running, stopped, failed, after, ended}
 use Rattle.functions.specs.Logarithm.{Rooted, rootingStep, rooting, Series, seriesStep, series}

@@ -1,22 +1,22 @@
 // The public calls of the square root and the logarithm. Each asks its questions first.
 ghost use lib.ListN.{length};
 ghost use lib.Ieee.{binary64};
-ghost use Rattle.arithmetic.specs.Outputs.{OneOutputIn, OneOutputWith, TwoOutputsIn, TwoOutputsWith};
+ghost use Rattle.questions.specs.Outputs.{OneOutputIn, OneOutputWith, TwoOutputsIn, TwoOutputsWith};
 ghost use Rattle.functions.specs.Calls.{frechetLogm, frechetSqrtm, sqrtm as sqrtmOf, logm as logmOf};
 use crate::log_derivative::frechet_logm_in;
 use crate::logarithm::logm_in;
 use crate::root_derivative::frechet_sqrtm_in;
 use crate::square_root::sqrtm_in;
-use arithmetic::answer::Answer;
-use arithmetic::answer::Question;
-use arithmetic::answer::refused;
-use arithmetic::output::deliver;
-use arithmetic::output::deliver_both;
-use arithmetic::question::ask_frechet_logm;
-use arithmetic::question::ask_frechet_sqrtm;
-use arithmetic::question::ask_logm;
-use arithmetic::question::ask_sqrtm;
 use arithmetic::workspace::copy_in;
+use questions::answer::Answer;
+use questions::answer::Question;
+use questions::answer::refused;
+use questions::output::deliver;
+use questions::output::deliver_both;
+use questions::question::ask_frechet_logm;
+use questions::question::ask_frechet_sqrtm;
+use questions::question::ask_logm;
+use questions::question::ask_sqrtm;
 
 // `sqrtm`, where the workspace is cleared only if `clears` is true.
 pub fn sqrtm_with(

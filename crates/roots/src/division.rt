@@ -6,9 +6,9 @@ ghost use lib.Dec.{eqb};
 ghost use lib.Ieee.{binary64};
 ghost use Rattle.arithmetic.specs.Workspace.{Room};
 ghost use Rattle.roots.specs.Passes.{Quotient};
-use lu::LuOutcome;
-use lu::room::pivot_room;
-use lu::workspace::divide;
+use factoring::LuOutcome;
+use factoring::room::pivot_room;
+use systems::workspace::divide;
 
 // The matrix of order n in slot 2 is factored, and where all its columns pass slot x becomes the quotient of its own matrix by it.
 pub fn divide_slot(w: &mut [f64], x: usize, n: usize) -> LuOutcome

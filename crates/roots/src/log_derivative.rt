@@ -4,15 +4,15 @@ ghost use mathlib.Core.Path.{_≡_};
 ghost use mathlib.Core.List.{[], _∷_};
 ghost use lib.Ieee.{binary64};
 ghost use Rattle.arithmetic.specs.Workspace.{Room, slot};
-ghost use Rattle.arithmetic.specs.Outputs.{ReplacedBoth};
+ghost use Rattle.questions.specs.Outputs.{ReplacedBoth};
 ghost use Rattle.functions.specs.Derivatives.{logStep, frechetLogM};
 ghost use Rattle.roots.specs.Frechet.{QuotientPlaced, shiftedLogarithm};
 use crate::logarithm::logm_in;
-use arithmetic::answer::Outcome;
-use arithmetic::root::sqrt;
 use arithmetic::workspace::accumulate;
 use arithmetic::workspace::copy;
 use arithmetic::workspace::difference_quotient;
+use floats::root::sqrt;
+use questions::answer::Outcome;
 
 // The step of the difference quotient: the root of 2^-52.
 fn log_step() -> f64

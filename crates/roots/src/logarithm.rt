@@ -4,23 +4,18 @@ ghost use mathlib.Core.Path.{_≡_};
 ghost use mathlib.Core.List.{[], _∷_};
 ghost use Prim.Native.Nat.{_≤_};
 ghost use lib.Ieee.{binary64, le, mul};
-ghost use Rattle.arithmetic.specs.Float.{epsilon};
+ghost use Rattle.floats.specs.Float.{epsilon};
 ghost use Rattle.arithmetic.specs.Norm.{frobenius as frobeniusOf};
 ghost use Rattle.arithmetic.specs.Workspace.{Room, slot};
-ghost use Rattle.arithmetic.specs.Outputs.{Replaced};
+ghost use Rattle.questions.specs.Outputs.{Replaced};
 ghost use Rattle.functions.specs.Logarithm.{isFar, seriesStep, seriesCoefficient, logarithm};
 ghost use Rattle.roots.specs.Passes.{tested, OnePass};
 ghost use Rattle.roots.specs.Rooting.{RootingPass, RootsTaken, seriesIn, TermsAdded, SeriesSummed, LogarithmNear};
 use crate::newton::newton_root;
 use crate::pass::Pass;
 use crate::pass::answers;
-use arithmetic::answer::Outcome;
-use arithmetic::answer::Refusal;
-use arithmetic::float::of_small;
-use arithmetic::float::power_of_two;
 use arithmetic::norm::norm_1_minus_identity;
 use arithmetic::norm::sums_of_squares;
-use arithmetic::root::sqrt;
 use arithmetic::workspace::add;
 use arithmetic::workspace::copy;
 use arithmetic::workspace::minus_identity;
@@ -28,6 +23,11 @@ use arithmetic::workspace::mult;
 use arithmetic::workspace::scale;
 use arithmetic::workspace::times;
 use arithmetic::workspace::zero;
+use floats::float::of_small;
+use floats::float::power_of_two;
+use floats::root::sqrt;
+use questions::answer::Outcome;
+use questions::answer::Refusal;
 
 // How many roots were taken, or that LU refused a matrix on the way to one.
 pub enum Roots {

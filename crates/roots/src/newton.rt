@@ -8,14 +8,14 @@ ghost use Rattle.roots.specs.Passes.{NewtonMean, OnePass, Passes, Newton
 use crate::division::divide_slot;
 use crate::pass::Pass;
 use crate::pass::root_verdict;
-use arithmetic::float::of_small;
 use arithmetic::norm::sum_of_squared_differences;
 use arithmetic::norm::trace;
-use arithmetic::root::sqrt;
 use arithmetic::workspace::copy;
 use arithmetic::workspace::diagonal;
 use arithmetic::workspace::mean;
-use lu::LuOutcome;
+use factoring::LuOutcome;
+use floats::float::of_small;
+use floats::root::sqrt;
 
 // x becomes the mean of itself and y, which stands in slot 3.
 fn newton_mean(w: &mut [f64], n: usize) -> Pass

@@ -1,10 +1,10 @@
 // The passes of an iteration that stops early or fails.
 ghost use mathlib.Core.Path.{_≡_};
 ghost use lib.Ieee.{binary64, lt};
-ghost use Rattle.arithmetic.specs.Root.{sqrtOf};
+ghost use Rattle.floats.specs.Root.{sqrtOf};
 ghost use Rattle.functions.specs.Roots.{rootTolerance};
 ghost use Rattle.roots.specs.Passes.{tested, answered};
-use arithmetic::root::sqrt;
+use floats::root::sqrt;
 
 // What a pass makes of its iteration.
 pub enum Pass {

@@ -6,19 +6,19 @@ ghost use Prim.Native.Nat.{_*_, _≤_};
 ghost use lib.ListN.{length};
 ghost use lib.Ieee.{binary64};
 ghost use Rattle.arithmetic.specs.Workspace.{Room, slot, store};
-ghost use Rattle.arithmetic.specs.Outputs.{ReplacedBoth};
+ghost use Rattle.questions.specs.Outputs.{ReplacedBoth};
 ghost use Rattle.functions.specs.Derivatives.{sylvesterMatrix, scalarDerivative, rootDerivative, frechetSqrtM, sylvester as sylvesterOf};
 ghost use Rattle.roots.specs.Frechet.{SystemSolved, Derived, derivedSlots};
 use crate::square_root::sqrtm_in;
 use crate::sylvester::sylvester_into;
-use arithmetic::answer::Outcome;
-use arithmetic::answer::Refusal;
 use arithmetic::workspace::copy_out;
 use arithmetic::workspace::small_room;
 use arithmetic::workspace::transpose;
-use lu::LuOutcome;
-use lu::room::pivot_room;
-use lu::workspace::divide;
+use factoring::LuOutcome;
+use factoring::room::pivot_room;
+use questions::answer::Outcome;
+use questions::answer::Refusal;
+use systems::workspace::divide;
 
 // The system's matrix is written from slot 8 on. s is room for S.
 fn fill_system(w: &mut [f64], n: usize, s: &mut [f64])

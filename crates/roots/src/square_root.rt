@@ -3,21 +3,21 @@
 ghost use mathlib.Core.List.{[], _∷_};
 ghost use lib.Ieee.{binary64};
 ghost use Rattle.arithmetic.specs.Workspace.{Room, slot};
-ghost use Rattle.arithmetic.specs.Outputs.{Replaced};
+ghost use Rattle.questions.specs.Outputs.{Replaced};
 ghost use Rattle.functions.specs.Roots.{denmanBeaversStep, squareRoot};
 ghost use Rattle.roots.specs.Passes.{OnePass, Passes, pairIn, Means, SecondInverse};
 use crate::division::divide_slot;
 use crate::pass::Pass;
 use crate::pass::answers;
 use crate::pass::root_verdict;
-use arithmetic::answer::Outcome;
-use arithmetic::answer::Refusal;
 use arithmetic::norm::sum_of_squared_differences;
-use arithmetic::root::sqrt;
 use arithmetic::workspace::copy;
 use arithmetic::workspace::identity;
 use arithmetic::workspace::mean;
-use lu::LuOutcome;
+use factoring::LuOutcome;
+use floats::root::sqrt;
+use questions::answer::Outcome;
+use questions::answer::Refusal;
 
 // y becomes the mean of itself and 1 / z, which stands in slot 3, and z that of itself and 1 / y, which stands in slot 4.
 fn means(w: &mut [f64], n: usize) -> Pass

@@ -4,7 +4,7 @@ ghost use mathlib.Core.Path.{_≡_};
 ghost use Prim.Native.Nat.{_+_, _*_, _<_, _≤_};
 ghost use lib.ListN.{length};
 ghost use lib.Ieee.{binary64};
-ghost use Rattle.arithmetic.specs.Float.{+zero};
+ghost use Rattle.floats.specs.Float.{+zero};
 ghost use Rattle.arithmetic.specs.Matrix.{tab, grid, at, put};
 ghost use Rattle.functions.specs.Kronecker.{blockRow};
 ghost use Rattle.functions.specs.Derivatives.{sylvesterEntry, sylvesterMatrix};

@@ -9,14 +9,14 @@ use lib.Dec.{T, leb, leb→le}
 use lib.Ieee.{Float, Format, sub, mul, div}
 use lib.Ieee.Fits.{and-l, and-r}
 use lib.Ieee.Scale.{finite}
-use Rattle.arithmetic.specs.Float.{one, inversePowerOfTwo}
+use Rattle.floats.specs.Float.{one, inversePowerOfTwo}
 use Rattle.arithmetic.specs.Matrix.{at, item, column}
 use Rattle.arithmetic.specs.Product.{dot, squared}
 use Rattle.arithmetic.specs.Finite.{FiniteDot, FiniteProduct}
-use Rattle.arithmetic.proofs.Order.{split}
-use Rattle.lu.specs.Lu.{swapRows, luAt, luPivot, luFactors, luPivots}
-use Rattle.lu.specs.Solve.{permuted, forward, back}
-use Rattle.lu.specs.Finite.{FiniteColumn, FiniteForward, FiniteBackStep, FiniteSolution}
+use Rattle.floats.proofs.Order.{split}
+use Rattle.factoring.specs.Lu.{swapRows, luAt, luPivot, luFactors, luPivots}
+use Rattle.factoring.specs.Solve.{permuted, forward, back}
+use Rattle.factoring.specs.Finite.{FiniteColumn, FiniteForward, FiniteBackStep, FiniteSolution}
 use Rattle.functions.specs.Exponential.{power, coefficient, flipped, numerator, denominator, pade, scaled}
 use Rattle.functions.specs.Finite.{FiniteCombination, FinitePade, FiniteRun}
 

@@ -5,8 +5,8 @@ use lib.Dec.{T, lit≤}
 use lib.IntN.{pos}
 use lib.Ieee.{Float, fin, binary64}
 use mathlib.Core.Bool.{false}
-use Rattle.lu.specs.Lu.{luOutcome}
-use Rattle.lu.specs.declared.LuOutcome.the-variants.{Factored}
+use Rattle.factoring.specs.Lu.{luOutcome}
+use Rattle.factoring.specs.declared.LuOutcome.the-variants.{Factored}
 use Rattle.functions.specs.Exponential.{exponential, denominator, scaled, block, quarter}
 use Rattle.functions.specs.Frechet.{Proviso}
 use Rattle.functions.proofs.FirstOutput.{first-output-alone, counted}

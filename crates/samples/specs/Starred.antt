@@ -5,9 +5,9 @@ use mathlib.Core.Bool.{true, false, cond}
 use mathlib.Core.List.{List, [], _∷_, _++_, map}
 use lib.IntN.{ℤ, pos, negsuc}
 use lib.Ieee.{Float, binary64, fin, ofBits, round}
-use Rattle.arithmetic.specs.Float.{+zero, halvings, integerOf}
+use Rattle.floats.specs.Float.{+zero, halvings, integerOf}
 use Rattle.arithmetic.specs.Matrix.{tab}
-use Rattle.arithmetic.specs.Result.{_>>=_}
+use Rattle.questions.specs.Result.{_>>=_}
 use Rattle.lu.specs.Calls.{Factorisation, compute, determinant}
 use Rattle.functions.specs.Powers.{isWhole}
 use Rattle.functions.specs.Calls.{expm, logm, sqrtm, frechetExpm}

@@ -11,14 +11,14 @@ use lib.ListN.{length, take, length-take}
 use lib.Seq.{getD-take, take-all}
 use lib.Ieee.{Format}
 use Rattle.functions.proofs.ConditionLaws.{square-le8}
-use Rattle.sheet.specs.declared.parse.Step.{Step}
-use Rattle.sheet.specs.declared.parse.Step.the-variants.{Value, Bad}
-use Rattle.sheet.specs.declared.parse.Parse.{Parse}
-use Rattle.sheet.specs.declared.parse.Parse.the-variants.{Sheet, Refused}
-use Rattle.sheet.specs.Bytes.{byteAt}
-use Rattle.sheet.specs.Parse.{byteIn, thenStep, thenParse, bytesAfter, section, order, indexLimit, task, tasks, parseEnd, parseEach, parseTasks, parseExponents, parseDirections, parseSheet, directionsAt, exponentsAt}
+use Rattle.encoding.specs.declared.parse.Step.{Step}
+use Rattle.encoding.specs.declared.parse.Step.the-variants.{Value, Bad}
+use Rattle.encoding.specs.declared.parse.Parse.{Parse}
+use Rattle.encoding.specs.declared.parse.Parse.the-variants.{Sheet, Refused}
+use Rattle.encoding.specs.Bytes.{byteAt}
+use Rattle.encoding.specs.Parse.{byteIn, thenStep, thenParse, bytesAfter, section, order, indexLimit, task, tasks, parseEnd, parseEach, parseTasks, parseExponents, parseDirections, parseSheet, directionsAt, exponentsAt}
 use Rattle.sheet.specs.Tasks.{linesOf, sheetLines}
-use Rattle.sheet.proofs.ParseLaws.{byteIn-is, section-is, order-is}
+use Rattle.encoding.proofs.ParseLaws.{byteIn-is, section-is, order-is}
 
 -- ---- two sheets that are read alike
 

@@ -1,5 +1,1 @@
-pub mod Bytes
-pub mod Text
-pub mod Wrote
-pub mod Parse
 pub mod Tasks

@@ -1,16 +1,12 @@
-// The sheet: its bytes read, its tasks run, a line written for each.
+// The exported entry: a sheet's tasks are run, and a line is written for each.
 ghost use lib.ListN.{length};
 ghost use mathlib.Core.Path.{_≡_};
 ghost use lib.Ieee.{binary64};
 ghost use Rattle.sheet.specs.Tasks.{Entered};
 
-pub mod line;
-pub mod parse;
 pub mod position;
-pub mod reading;
 pub mod run;
 pub mod task;
-pub mod writing;
 
 // Room for a workspace.
 fn workspace_room() -> [f64; 8192]

@@ -3,17 +3,17 @@ ghost use mathlib.Core.Path.{_≡_};
 ghost use Prim.Native.Nat.{_+_, _*_, _≤_};
 ghost use lib.ListN.{length};
 ghost use lib.Ieee.{binary64};
-ghost use Rattle.sheet.specs.Parse.{SheetIs, tasksAt};
+ghost use Rattle.encoding.specs.Parse.{SheetIs, tasksAt};
 ghost use Rattle.sheet.specs.Tasks.{taskLines, sheetLines, TasksRoom};
-ghost use Rattle.sheet.specs.Wrote.{AllLines};
-use crate::line::coded;
-use crate::line::put_refused;
-use crate::parse::Parse;
-use crate::parse::parse_sheet;
+ghost use Rattle.encoding.specs.Wrote.{AllLines};
 use crate::position::exponent_at;
-use crate::reading::read_numbers;
 use crate::task::run_task;
 use arithmetic::workspace::small_room;
+use encoding::line::coded;
+use encoding::line::put_refused;
+use encoding::parse::Parse;
+use encoding::parse::parse_sheet;
+use encoding::reading::read_numbers;
 
 // The lines of t tasks, the first at q. A refused task has its line like any other, and the next is run.
 fn run_tasks(

@@ -1,8 +1,8 @@
 // One recorded vector: the call is made with slices of the recorded lengths, and what it gives is compared.
 ghost use mathlib.Core.Path.{_≡_};
 ghost use lib.ListN.{length};
-use functions::kronecker::kron;
-use functions::kronecker::kron_sum;
+use kronecker::kron;
+use kronecker::kron_sum;
 use recorded::after;
 use recorded::call::Shape;
 use recorded::call::count_list;

@@ -5,7 +5,7 @@ use native.Mathlib.Nat.{le-antisymm}
 use mathlib.Core.Path.{_≡_, refl}
 use lib.ListN.{length, length-set}
 use lib.Ieee.{binary64}
-use Rattle.arithmetic.specs.Float.{+zero}
+use Rattle.floats.specs.Float.{+zero}
 use Rattle.arithmetic.specs.Matrix.{tab, put}
 use Rattle.arithmetic.specs.Workspace.{cleared}
 use Rattle.arithmetic.proofs.PartLaws.{put-none, put-store0}

@@ -6,7 +6,7 @@ use mathlib.Core.Bool.{false}
 use lib.Dec.{eqb}
 use lib.ListN.{length, length-set}
 use lib.Ieee.{Float, binary64, add, mul}
-use Rattle.arithmetic.specs.Float.{half}
+use Rattle.floats.specs.Float.{half}
 use Rattle.arithmetic.specs.Matrix.{tab, item, put}
 use Rattle.arithmetic.specs.Workspace.{slot, store}
 use Rattle.arithmetic.proofs.MatrixLaws.{square-le}

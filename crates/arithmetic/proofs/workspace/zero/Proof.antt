@@ -4,7 +4,7 @@ use native.Mathlib.Omega.{arith}
 use mathlib.Core.Path.{_≡_, refl}
 use lib.ListN.{length, length-set}
 use lib.Ieee.{binary64}
-use Rattle.arithmetic.specs.Float.{+zero}
+use Rattle.floats.specs.Float.{+zero}
 use Rattle.arithmetic.specs.Matrix.{tab, put}
 use Rattle.arithmetic.specs.Product.{zeroM}
 use Rattle.arithmetic.specs.Workspace.{slot, store}

@@ -6,10 +6,10 @@ use native.Mathlib.Omega.{arith}
 use denote.Ref.{now}
 use lib.ListN.{length}
 use lib.Ieee.{binary64}
-use Rattle.arithmetic.specs.Questions.{unary, anywhere, ofCondExpm}
-use Rattle.arithmetic.proofs.QuestionLaws.{accepted}
-use Rattle.arithmetic.proofs.AnswerLaws.{workspace-no}
-use Rattle.arithmetic.proofs.OutputLaws.{kept-where}
+use Rattle.questions.specs.Questions.{unary, anywhere, ofCondExpm}
+use Rattle.questions.proofs.QuestionLaws.{accepted}
+use Rattle.questions.proofs.AnswerLaws.{workspace-no}
+use Rattle.questions.proofs.OutputLaws.{kept-where}
 use Rattle.functions.specs.Derivatives.{condExpM}
 use Rattle.functions.specs.Calls.{condExpm}
 use Rattle.functions.proofs.ConditionLaws.{condition-refused, condition-passed, workspace-passed, late-condExpM}

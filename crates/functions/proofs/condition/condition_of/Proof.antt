@@ -4,8 +4,8 @@ use mathlib.Core.Path.{ap, _∙_}
 use mathlib.Core.Bool.{cond}
 use denote.Ref.{now}
 use lib.Ieee.{binary64, div, lt}
-use Rattle.arithmetic.specs.Float.{+zero, one}
-use Rattle.arithmetic.specs.Root.{sqrtOf}
+use Rattle.floats.specs.Float.{+zero, one}
+use Rattle.floats.specs.Root.{sqrtOf}
 use Rattle.arithmetic.specs.Norm.{sumOfSquares, frobenius}
 use Rattle.functions.specs.Derivatives.{conditionOf}
 use Rattle.functions.proofs.ConditionLaws.{part-all}

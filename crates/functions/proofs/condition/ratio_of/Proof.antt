@@ -2,7 +2,7 @@
 use mathlib.Core.Path.{sym, ap, _∙_}
 use mathlib.Core.Bool.{Bool, cond}
 use lib.Ieee.{Float, binary64, div, lt}
-use Rattle.arithmetic.specs.Float.{one}
+use Rattle.floats.specs.Float.{one}
 use Rattle.arithmetic.proofs.ProductLaws.{+zero-bits, one-bits}
 use Rattle.functions.proofs.condition.ratio_of.Statement.{statement}
 use Rattle.functions.proofs.condition.ratio_of.Tie as tie

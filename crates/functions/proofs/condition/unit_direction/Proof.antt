@@ -5,8 +5,8 @@ use denote.Ref.{now}
 use lib.Dec.{lit<}
 use lib.IntN.{pos}
 use lib.Ieee.{Float, binary64, div, ofBits, ofInt}
-use Rattle.arithmetic.specs.Float.{one, constant}
-use Rattle.arithmetic.specs.Root.{sqrtOf}
+use Rattle.floats.specs.Float.{one, constant}
+use Rattle.floats.specs.Root.{sqrtOf}
 use Rattle.arithmetic.specs.Product.{diagonalM}
 use Rattle.arithmetic.specs.Workspace.{store}
 use Rattle.arithmetic.proofs.MatrixLaws.{square-le}

@@ -1,5 +1,5 @@
 -- `expm` meets its contract. Assumes nothing.
-use Rattle.arithmetic.proofs.OutputLaws.{clearing-one}
+use Rattle.questions.proofs.OutputLaws.{clearing-one}
 use borrow.Author.Needs.{needs}
 use Rattle.functions.proofs.expm.expm.Statement.{statement}
 use Rattle.functions.proofs.expm.expm.Tie as tie

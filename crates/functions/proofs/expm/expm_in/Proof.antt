@@ -3,7 +3,7 @@ use mathlib.Core.Path.{ap, _∙_}
 use mathlib.Core.List.{[], _∷_}
 use native.Mathlib.Omega.{arith}
 use lib.Ieee.{binary64}
-use Rattle.arithmetic.specs.Answers.{reported}
+use Rattle.questions.specs.Answers.{reported}
 use Rattle.arithmetic.specs.Norm.{norm1}
 use Rattle.arithmetic.specs.Workspace.{slot}
 use Rattle.functions.specs.Exponential.{exponential}

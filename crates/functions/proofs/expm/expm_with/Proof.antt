@@ -7,10 +7,10 @@ use denote.Ref.{now}
 use lib.Dec.{lit<}
 use lib.ListN.{length}
 use lib.Ieee.{binary64}
-use Rattle.arithmetic.specs.Questions.{unary, anywhere, ofExpm}
+use Rattle.questions.specs.Questions.{unary, anywhere, ofExpm}
 use Rattle.arithmetic.proofs.MatrixLaws.{square-le}
-use Rattle.arithmetic.proofs.QuestionLaws.{accepted}
-use Rattle.arithmetic.proofs.OutputLaws.{one-refused, one-done}
+use Rattle.questions.proofs.QuestionLaws.{accepted}
+use Rattle.questions.proofs.OutputLaws.{one-refused, one-done}
 use Rattle.functions.specs.Powers.{expM}
 use Rattle.functions.specs.Calls.{expm}
 use Rattle.functions.proofs.ExponentialLaws.{late-expM}

@@ -1,5 +1,5 @@
 -- `frechet_expm` meets its contract. Assumes nothing.
-use Rattle.arithmetic.proofs.BothLaws.{clearing-two}
+use Rattle.questions.proofs.BothLaws.{clearing-two}
 use borrow.Author.Needs.{needs}
 use Rattle.functions.proofs.frechet.frechet_expm.Statement.{statement}
 use Rattle.functions.proofs.frechet.frechet_expm.Tie as tie

@@ -5,9 +5,9 @@ use native.Mathlib.Omega.{arith}
 use denote.Ref.{now}
 use lib.ListN.{length}
 use lib.Ieee.{binary64}
-use Rattle.arithmetic.specs.Questions.{binary, anywhere, ofFrechetExpm}
-use Rattle.arithmetic.proofs.QuestionLaws.{accepted-directed}
-use Rattle.arithmetic.proofs.BothLaws.{two-refused}
+use Rattle.questions.specs.Questions.{binary, anywhere, ofFrechetExpm}
+use Rattle.questions.proofs.QuestionLaws.{accepted-directed}
+use Rattle.questions.proofs.BothLaws.{two-refused}
 use Rattle.functions.specs.Derivatives.{frechetExpM}
 use Rattle.functions.specs.Calls.{frechetExpm}
 use Rattle.functions.proofs.FrechetLaws.{two-written, late-frechetExpM}

@@ -2,12 +2,12 @@
 use mathlib.Core.Path.{sym, ap, _∙_}
 use lib.Ieee.{Float, binary64}
 use denote.Ref.{now}
-use Rattle.arithmetic.specs.Float.{+zero}
-use Rattle.arithmetic.specs.Result.{Result, done, outcome, exit}
-use Rattle.arithmetic.specs.Questions.{ofDeterminant}
+use Rattle.floats.specs.Float.{+zero}
+use Rattle.questions.specs.Result.{Result, done, outcome, exit}
+use Rattle.questions.specs.Questions.{ofDeterminant}
 use Rattle.arithmetic.proofs.ProductLaws.{+zero-bits}
-use Rattle.arithmetic.proofs.AnswerLaws.{answer-passed, outcome-no, exit-no}
-use Rattle.lu.specs.Solve.{determinantOf}
+use Rattle.questions.proofs.AnswerLaws.{answer-passed, outcome-no, exit-no}
+use Rattle.factoring.specs.Solve.{determinantOf}
 use Rattle.lu.specs.Calls.{determinant, determinantCall}
 use Rattle.lu.proofs.LuQuestionLaws.{determinant-passed}
 use borrow.Author.Needs.{needs}

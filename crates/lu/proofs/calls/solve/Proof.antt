@@ -2,10 +2,10 @@
 use lib.ListN.{length}
 use lib.Ieee.{binary64}
 use denote.Ref.{now}
-use Rattle.arithmetic.specs.Result.{done}
-use Rattle.arithmetic.specs.Questions.{ofSolve}
-use Rattle.arithmetic.proofs.OutputLaws.{output-refused, output-done}
-use Rattle.lu.specs.Solve.{solvedMatrix}
+use Rattle.questions.specs.Result.{done}
+use Rattle.questions.specs.Questions.{ofSolve}
+use Rattle.questions.proofs.OutputLaws.{output-refused, output-done}
+use Rattle.factoring.specs.Solve.{solvedMatrix}
 use Rattle.lu.specs.Calls.{solve, solveCall}
 use Rattle.lu.proofs.LuQuestionLaws.{solve-passed}
 use borrow.Author.Needs.{needs}

@@ -4,20 +4,20 @@ use Prim.Native.Nat.{_≤_, _-_}
 use mathlib.Core.Path.{_≡_, refl, ap, _∙_}
 use lib.ListN.{length}
 use lib.Ieee.{binary64}
-use Rattle.lu.proofs.SolveLaws.{length-forwardStep, forward-turn}
+use Rattle.factoring.proofs.SolveLaws.{length-forwardStep, forward-turn}
 use native.Mathlib.Omega.{arith}
 use borrow.Author.Needs.{needs}
 use Rattle.lu.proofs.substitution.forward.Statement.{statement}
 use Rattle.lu.proofs.substitution.forward.Tie as tie
 
 abbrev Inv-loop : tie.InvT-loop
-Inv-loop f n x₀ k₀ x k = (k ≤ n) × (length x ≡ n) × (x ≡ Rattle.lu.specs.Solve.forward binary64 n f x₀ k)
+Inv-loop f n x₀ k₀ x k = (k ≤ n) × (length x ≡ n) × (x ≡ Rattle.factoring.specs.Solve.forward binary64 n f x₀ k)
 
 abbrev μ-loop : tie.MeasureT-loop
 μ-loop f n x₀ k₀ x k = n - k
 
 loop-holds : tie.Need-loop-holds Inv-loop μ-loop
-unfolding Rattle.lu.specs.Solve.forward
+unfolding Rattle.factoring.specs.Solve.forward
 loop-holds c = (omega arith, c .before .before .pre .1, refl)
 
 forward-step-requires : tie.Need-forward-step-requires Inv-loop μ-loop
@@ -49,7 +49,7 @@ returns c =
     let l = c .before .loop in
     let a = c .before .before .before .before .args in
     let e : l .k ≡ a .n = omega arith in
-    l .inv .2 ∙ ap (Rattle.lu.specs.Solve.forward binary64 (a .n) (a .f .now) (a .x .now)) e
+    l .inv .2 ∙ ap (Rattle.factoring.specs.Solve.forward binary64 (a .n) (a .f .now) (a .x .now)) e
 
 pub forward-spec : {M : Type 1} → statement M
 forward-spec =

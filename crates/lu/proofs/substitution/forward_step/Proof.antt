@@ -6,8 +6,8 @@ use lib.ListN.{length, getD, length-set}
 use lib.Ieee.{binary64, nan}
 use Rattle.arithmetic.specs.Matrix.{patch}
 use Rattle.arithmetic.proofs.PatchLaws.{patch-none}
-use Rattle.lu.specs.Solve.{lowered}
-use Rattle.lu.proofs.SolveLaws.{forward-row, forward-step}
+use Rattle.factoring.specs.Solve.{lowered}
+use Rattle.factoring.proofs.SolveLaws.{forward-row, forward-step}
 use native.Mathlib.Omega.{arith}
 use borrow.Author.Needs.{needs}
 use Rattle.lu.proofs.substitution.forward_step.Statement.{statement}

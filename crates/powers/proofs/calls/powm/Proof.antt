@@ -1,5 +1,5 @@
 -- `powm` meets its contract. Assumes nothing.
-use Rattle.arithmetic.proofs.OutputLaws.{clearing-one}
+use Rattle.questions.proofs.OutputLaws.{clearing-one}
 use borrow.Author.Needs.{needs}
 use Rattle.powers.proofs.calls.powm.Statement.{statement}
 use Rattle.powers.proofs.calls.powm.Tie as tie

@@ -5,10 +5,10 @@ use mathlib.Core.List.{List, [], _∷_}
 use lib.ListN.{length}
 use lib.Ieee.{Float, binary64}
 use denote.Ref.{now}
-use Rattle.arithmetic.specs.Questions.{powered, anywhere, ofPowm}
+use Rattle.questions.specs.Questions.{powered, anywhere, ofPowm}
 use Rattle.arithmetic.proofs.MatrixLaws.{square-le}
-use Rattle.arithmetic.proofs.QuestionLaws.{accepted}
-use Rattle.arithmetic.proofs.OutputLaws.{one-refused, one-done}
+use Rattle.questions.proofs.QuestionLaws.{accepted}
+use Rattle.questions.proofs.OutputLaws.{one-refused, one-done}
 use Rattle.functions.specs.Powers.{powerM}
 use Rattle.functions.specs.Calls.{powm}
 use Rattle.powers.proofs.PowerLaws.{late-power}

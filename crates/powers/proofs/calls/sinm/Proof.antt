@@ -1,5 +1,5 @@
 -- `sinm` meets its contract. Assumes nothing.
-use Rattle.arithmetic.proofs.OutputLaws.{clearing-one}
+use Rattle.questions.proofs.OutputLaws.{clearing-one}
 use borrow.Author.Needs.{needs}
 use Rattle.powers.proofs.calls.sinm.Statement.{statement}
 use Rattle.powers.proofs.calls.sinm.Tie as tie

@@ -1,6 +1,6 @@
 -- `one_over` meets its contract. Assumes nothing.
 use lib.Ieee.{binary64, div}
-use Rattle.arithmetic.specs.Float.{constant}
+use Rattle.floats.specs.Float.{constant}
 use Rattle.arithmetic.proofs.ProductLaws.{one-bits}
 use Rattle.functions.specs.Trigonometric.{oneOver}
 use borrow.Author.Needs.{needs}

@@ -4,7 +4,7 @@ use mathlib.Core.List.{[], _∷_}
 use lib.Ieee.{binary64}
 use Rattle.arithmetic.specs.Product.{timesM}
 use Rattle.arithmetic.specs.Workspace.{slot, member}
-use Rattle.arithmetic.specs.Result.{done}
+use Rattle.questions.specs.Result.{done}
 use Rattle.arithmetic.proofs.Slots.{only-refl}
 use Rattle.functions.specs.Powers.{expM}
 use Rattle.powers.proofs.ReplacedLaws.{replaced-by, then-refused, then-replaced}

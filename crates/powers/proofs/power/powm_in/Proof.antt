@@ -3,8 +3,8 @@ use mathlib.Core.Path.{refl, _∙_, subst}
 use mathlib.Core.List.{List, [], _∷_}
 use lib.Ieee.{Float, binary64}
 use Rattle.arithmetic.specs.Workspace.{slot, member}
-use Rattle.arithmetic.specs.Result.{Result}
-use Rattle.arithmetic.specs.Outputs.{Replaced}
+use Rattle.questions.specs.Result.{Result}
+use Rattle.questions.specs.Outputs.{Replaced}
 use Rattle.arithmetic.proofs.Slots.{only-refl}
 use Rattle.powers.proofs.ReplacedLaws.{replaced-more}
 use Rattle.powers.proofs.WholeLaws.{whole-read}

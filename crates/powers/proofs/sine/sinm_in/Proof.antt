@@ -2,8 +2,8 @@
 use mathlib.Core.Path.{ap, _∙_}
 use mathlib.Core.List.{[], _∷_}
 use lib.Ieee.{binary64, add}
-use Rattle.arithmetic.specs.Answers.{reported}
-use Rattle.arithmetic.specs.Float.{one}
+use Rattle.questions.specs.Answers.{reported}
+use Rattle.floats.specs.Float.{one}
 use Rattle.arithmetic.specs.Norm.{norm1}
 use Rattle.arithmetic.specs.Workspace.{slot}
 use Rattle.arithmetic.proofs.ProductLaws.{one-bits}

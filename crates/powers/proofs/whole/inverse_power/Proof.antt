@@ -3,8 +3,8 @@ use mathlib.Core.Path.{refl}
 use mathlib.Core.List.{[], _∷_}
 use lib.Ieee.{binary64}
 use Rattle.arithmetic.specs.Workspace.{slot}
-use Rattle.arithmetic.specs.Result.{done}
-use Rattle.lu.specs.Solve.{inverse}
+use Rattle.questions.specs.Result.{done}
+use Rattle.factoring.specs.Solve.{inverse}
 use Rattle.functions.specs.Roots.{orNotConverged}
 use Rattle.functions.specs.Powers.{bitPower}
 use Rattle.powers.proofs.ReplacedLaws.{replaced-by, then-refused, then-replaced}

@@ -3,10 +3,10 @@ use mathlib.Core.Path.{sym, ap, _∙_, subst}
 use mathlib.Core.List.{List, [], _∷_}
 use Prim.Native.Nat.{ℕ}
 use lib.Ieee.{Float, binary64}
-use Rattle.arithmetic.specs.declared.answer.Outcome.the-variants.{Done}
+use Rattle.questions.specs.declared.answer.Outcome.the-variants.{Done}
 use Rattle.arithmetic.specs.Workspace.{slot}
-use Rattle.arithmetic.specs.Result.{Result, done}
-use Rattle.arithmetic.specs.Outputs.{Replaced}
+use Rattle.questions.specs.Result.{Result, done}
+use Rattle.questions.specs.Outputs.{Replaced}
 use Rattle.functions.specs.Powers.{bitPower}
 use Rattle.powers.specs.Whole.{negativePower}
 use Rattle.powers.proofs.WholeLaws.{sign-of, size-read, whole-negative, whole-positive}

@@ -5,10 +5,10 @@ use mathlib.Core.List.{[], _∷_}
 use lib.ListN.{length}
 use lib.Ieee.{binary64}
 use denote.Ref.{now}
-use Rattle.arithmetic.specs.Questions.{binary, positive, ofFrechetLogm}
+use Rattle.questions.specs.Questions.{binary, positive, ofFrechetLogm}
 use Rattle.arithmetic.proofs.MatrixLaws.{square-le}
-use Rattle.arithmetic.proofs.QuestionLaws.{accepted-directed}
-use Rattle.arithmetic.proofs.BothLaws.{two-refused, two-done}
+use Rattle.questions.proofs.QuestionLaws.{accepted-directed}
+use Rattle.questions.proofs.BothLaws.{two-refused, two-done}
 use Rattle.functions.specs.Derivatives.{frechetLogM}
 use Rattle.functions.specs.Calls.{frechetLogm}
 use Rattle.roots.proofs.CallLaws.{late-frechet-logarithm}

@@ -1,5 +1,5 @@
 -- `frechet_sqrtm` meets its contract. Assumes nothing.
-use Rattle.arithmetic.proofs.BothLaws.{clearing-two}
+use Rattle.questions.proofs.BothLaws.{clearing-two}
 use borrow.Author.Needs.{needs}
 use Rattle.roots.proofs.calls.frechet_sqrtm.Statement.{statement}
 use Rattle.roots.proofs.calls.frechet_sqrtm.Tie as tie

@@ -6,10 +6,10 @@ use mathlib.Core.List.{[], _∷_}
 use lib.ListN.{length}
 use lib.Ieee.{binary64}
 use denote.Ref.{now}
-use Rattle.arithmetic.specs.Questions.{binary, nonnegative, ofFrechetSqrtm}
+use Rattle.questions.specs.Questions.{binary, nonnegative, ofFrechetSqrtm}
 use Rattle.arithmetic.proofs.MatrixLaws.{square-le}
-use Rattle.arithmetic.proofs.QuestionLaws.{accepted-directed}
-use Rattle.arithmetic.proofs.BothLaws.{two-refused, two-done}
+use Rattle.questions.proofs.QuestionLaws.{accepted-directed}
+use Rattle.questions.proofs.BothLaws.{two-refused, two-done}
 use Rattle.functions.specs.Derivatives.{frechetSqrtM}
 use Rattle.functions.specs.Calls.{frechetSqrtm}
 use Rattle.roots.proofs.RootDerivativeLaws.{bothSlots}

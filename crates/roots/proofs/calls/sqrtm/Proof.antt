@@ -1,5 +1,5 @@
 -- `sqrtm` meets its contract. Assumes nothing.
-use Rattle.arithmetic.proofs.OutputLaws.{clearing-one}
+use Rattle.questions.proofs.OutputLaws.{clearing-one}
 use borrow.Author.Needs.{needs}
 use Rattle.roots.proofs.calls.sqrtm.Statement.{statement}
 use Rattle.roots.proofs.calls.sqrtm.Tie as tie

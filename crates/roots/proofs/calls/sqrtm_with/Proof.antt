@@ -5,10 +5,10 @@ use mathlib.Core.List.{[], _∷_}
 use lib.ListN.{length}
 use lib.Ieee.{binary64}
 use denote.Ref.{now}
-use Rattle.arithmetic.specs.Questions.{unary, nonnegative, ofSqrtm}
+use Rattle.questions.specs.Questions.{unary, nonnegative, ofSqrtm}
 use Rattle.arithmetic.proofs.MatrixLaws.{square-le}
-use Rattle.arithmetic.proofs.QuestionLaws.{accepted}
-use Rattle.arithmetic.proofs.OutputLaws.{one-refused, one-done}
+use Rattle.questions.proofs.QuestionLaws.{accepted}
+use Rattle.questions.proofs.OutputLaws.{one-refused, one-done}
 use Rattle.functions.specs.Roots.{squareRoot}
 use Rattle.functions.specs.Calls.{sqrtm}
 use Rattle.roots.proofs.CallLaws.{late-root}

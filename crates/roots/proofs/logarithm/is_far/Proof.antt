@@ -1,6 +1,6 @@
 -- `is_far` meets its contract: the constant is 0.1. Assumes nothing.
 use lib.Ieee.{ofBits, round}
-use Rattle.arithmetic.specs.Float.{constant}
+use Rattle.floats.specs.Float.{constant}
 use Rattle.functions.specs.Logarithm.{isFar, near}
 use borrow.Author.Needs.{needs}
 use Rattle.roots.proofs.logarithm.is_far.Statement.{statement}

@@ -4,8 +4,8 @@ use mathlib.Core.Bool.{false}
 use lib.IntN.{negsuc}
 use lib.Dec.{T}
 use lib.Ieee.{Float, fin, binary64, fits, lt, le, mul, ofBits, ofInt}
-use Rattle.arithmetic.specs.Root.{sqrtOf}
-use Rattle.arithmetic.proofs.RootBounds.{root-not-below}
+use Rattle.floats.specs.Root.{sqrtOf}
+use Rattle.floats.proofs.RootBounds.{root-not-below}
 use Rattle.functions.specs.Roots.{rootTolerance}
 use Rattle.roots.specs.Passes.{tested}
 use borrow.Author.Needs.{needs}

@@ -1,7 +1,7 @@
 -- `means` meets its contract: a step for each call. Assumes nothing.
 use native.Mathlib.Omega.{arith}
 use lib.Ieee.{binary64}
-use Rattle.arithmetic.specs.Root.{sqrtOf}
+use Rattle.floats.specs.Root.{sqrtOf}
 use Rattle.arithmetic.proofs.MatrixLaws.{square-le}
 use Rattle.roots.proofs.PassLaws.{root-of-squares}
 use Rattle.roots.proofs.SquareRootLaws.{means-steps}

@@ -4,7 +4,7 @@ use mathlib.Core.Path.{_≡_, refl, ap, _∙_}
 use mathlib.Core.List.{List}
 use lib.ListN.{length, set, length-set}
 use lib.Ieee.{Float, binary64}
-use Rattle.arithmetic.specs.Float.{+zero}
+use Rattle.floats.specs.Float.{+zero}
 use Rattle.arithmetic.specs.Matrix.{tab, at, item, put}
 use Rattle.arithmetic.proofs.ProductLaws.{+zero-bits}
 use Rattle.arithmetic.proofs.PartLaws.{put-none, put-store}

@@ -2,7 +2,7 @@
 use Prim.Native.Nat.{_-_, _<_, _≤_}
 use mathlib.Core.Path.{_≡_, ap, _∙_}
 use lib.Ieee.{Float, binary64}
-use Rattle.arithmetic.specs.Float.{+zero}
+use Rattle.floats.specs.Float.{+zero}
 use Rattle.arithmetic.specs.Matrix.{at, put, tab}
 use Rattle.arithmetic.proofs.MatrixLaws.{row-end}
 use Rattle.functions.specs.Derivatives.{sylvesterEntry}

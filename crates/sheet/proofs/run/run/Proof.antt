@@ -3,7 +3,7 @@ use mathlib.Core.Path.{sym, _∙_}
 use native.Mathlib.Omega.{arith}
 use denote.Ref.{now}
 use lib.Ieee.{binary64}
-use Rattle.sheet.proofs.ParseLaws.{sheet-is}
+use Rattle.encoding.proofs.ParseLaws.{sheet-is}
 use Rattle.sheet.proofs.SheetLaws.{lines-refused, lines-accepted}
 use borrow.Author.Needs.{needs}
 use Rattle.sheet.proofs.run.run.Statement.{statement}

@@ -1,0 +1,18 @@
+-- `parse_end` meets its contract. Assumes nothing.
+use lib.ListN.{length}
+use denote.Ref.{now}
+use borrow.Author.Tests.{le-leb, lt-leb}
+use Rattle.encoding.specs.Parse.{parseEnd}
+use Rattle.encoding.proofs.parse.parse_end.Statement.{statement}
+use Rattle.encoding.proofs.parse.parse_end.Tie as tie
+
+returns : tie.Need-returns
+unfolding parseEnd
+returns c = let a = c .before .args in simp (lt-leb (length (now (a .s))) (a .p) (c .if1 .taken))
+
+returns-2 : tie.Need-returns-2
+unfolding parseEnd
+returns-2 c = let a = c .before .args in simp (le-leb (length (now (a .s))) (a .p) (c .if1 .left))
+
+pub parse-end-spec : {M : Type 1} → statement M
+parse-end-spec = tie.close (tie.spec returns returns-2)

@@ -1,0 +1,4 @@
+pub mod Bytes
+pub mod Parse
+pub mod Text
+pub mod Wrote

@@ -1,0 +1,9 @@
+-- Laws that the proofs of this crate and of the crates above cite.
+pub mod LuLaws
+pub mod SolveLaws
+pub mod ColumnLaws
+pub mod RowLaws
+pub mod DivisionLaws
+pub mod Tolerance
+pub mod Factors
+pub mod Solution

@@ -1,0 +1,21 @@
+-- Laws that the proofs of this crate and of the crates above cite.
+pub mod Order
+pub mod Squares
+pub mod Roots
+pub mod Rounding
+pub mod Patterns
+pub mod Reading
+pub mod Aligned
+pub mod Cases
+pub mod Counts
+pub mod Middle
+pub mod Closest
+pub mod RootBounds
+pub mod Zero
+pub mod Signs
+pub mod Powers
+pub mod Least
+pub mod Halves
+pub mod Whole
+pub mod Ends
+pub mod Nans

@@ -1,0 +1,18 @@
+-- `is_finite` meets its contract, by the facts of `Signs`. Assumes nothing.
+use mathlib.Core.Path.{sym, _∙_, subst}
+use lib.Dec.{T}
+use lib.Ieee.{ofBits, div, neg}
+use Rattle.floats.proofs.Signs.{finite-above, finite-below}
+use Rattle.floats.proofs.float.is_finite.Statement.{statement}
+use Rattle.floats.proofs.float.is_finite.Tie as tie
+
+returns : tie.Need-returns
+unfolding ofBits div neg
+returns c = finite-above (c .before .args .x) (subst T (sym (c .if1 .taken)) tt)
+
+returns-2 : tie.Need-returns-2
+unfolding ofBits div neg
+returns-2 c = c .if1 .left ∙ finite-below (c .before .args .x) (λ t. subst T (c .if1 .left) t)
+
+pub is-finite-spec : {M : Type 1} → statement M
+is-finite-spec = tie.close (tie.spec returns returns-2)

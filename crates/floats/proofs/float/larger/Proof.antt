@@ -1,0 +1,15 @@
+-- `larger` meets its contract. Assumes nothing.
+use Rattle.floats.specs.Float.{larger}
+use Rattle.floats.proofs.float.larger.Statement.{statement}
+use Rattle.floats.proofs.float.larger.Tie as tie
+
+returns : tie.Need-returns
+unfolding larger
+returns c = rw (c .if1 .taken)
+
+returns-2 : tie.Need-returns-2
+unfolding larger
+returns-2 c = rw (c .if1 .left)
+
+pub larger-spec : {M : Type 1} → statement M
+larger-spec = tie.close (tie.spec returns returns-2)

@@ -1,0 +1,14 @@
+-- `of_small` meets its contract: n is small enough to be a float. Assumes nothing.
+use mathlib.Core.Path.{refl}
+use Prim.Native.Nat.{_^_}
+use lib.Dec.{le→leb}
+use lib.Ieee.{inFloat}
+use Rattle.floats.proofs.float.of_small.Statement.{statement}
+use Rattle.floats.proofs.float.of_small.Tie as tie
+
+int-to-float-result : tie.Need-int-to-float-result
+unfolding inFloat
+int-to-float-result c = le→leb (c .before .args .n) (2 ^ 53) (c .before .pre)
+
+pub of-small-spec : {M : Type 1} → statement M
+of-small-spec = tie.close (tie.spec int-to-float-result (λ c. refl))

@@ -1,0 +1,3 @@
+// Floats one by one, and the square root.
+pub mod float;
+pub mod root;

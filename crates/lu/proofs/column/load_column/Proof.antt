@@ -1,0 +1,79 @@
+-- `load_column` meets its contract. The invariant: the first i elements are copied. The measure is what is left of them.
+-- Assumes nothing.
+use Prim.Native.Nat.{_≤_, _-_}
+use mathlib.Core.Path.{_≡_, refl, ap, _∙_}
+use lib.ListN.{length, length-set}
+use lib.Ieee.{nan}
+use Rattle.arithmetic.specs.Matrix.{patch, at}
+use Rattle.arithmetic.proofs.PatchLaws.{patch-none}
+use Rattle.factoring.proofs.ColumnLaws.{load-turn, load-all}
+use native.Mathlib.Omega.{arith}
+use borrow.Author.Needs.{needs}
+use Rattle.lu.proofs.column.load_column.Statement.{statement}
+use Rattle.lu.proofs.column.load_column.Tie as tie
+
+abbrev Inv-loop : tie.InvT-loop
+Inv-loop b n m j x₀ i₀ x i = (i ≤ n) × (length x ≡ n) × (x ≡ patch 0 i (λ r. at m b r j) x₀)
+
+abbrev μ-loop : tie.MeasureT-loop
+μ-loop b n m j x₀ i₀ x i = n - i
+
+loop-holds : tie.Need-loop-holds Inv-loop μ-loop
+loop-holds c =
+    let s = c .before .before in
+    let a = s .args in
+    (omega arith, s .pre .2, patch-none nan 0 (λ r. at (a .m) (a .b .now) r (a .j)) (a .x .now))
+
+entry-requires : tie.Need-entry-requires Inv-loop μ-loop
+entry-requires c κs = search needs
+
+mul-x : tie.Need-mul-x Inv-loop μ-loop
+mul-x c = search needs
+
+slice-write-x : tie.Need-slice-write-x Inv-loop μ-loop
+slice-write-x c = search needs
+
+add-i : tie.Need-add-i Inv-loop μ-loop
+add-i c = search needs
+
+loop-less : tie.Need-loop-less Inv-loop μ-loop
+loop-less c = search needs
+
+loop-again : tie.Need-loop-again Inv-loop μ-loop
+loop-again c =
+    let l = c .before .before .loop in
+    let s = c .before .before .before .before .before in
+    let a = s .args in (
+      omega arith,
+      length-set (l .x) (l .i) (c .entry .result) ∙ l .inv .1,
+      load-turn (a .n) (a .m) (a .j) (a .b .now) (a .x .now) (l .x) _ (l .i) (c .entry .result) (omega arith) (l .inv .2) (c .entry .ensures) refl,
+    )
+
+same-length : tie.Need-same-length Inv-loop μ-loop
+same-length c = search needs
+
+returns : tie.Need-returns Inv-loop μ-loop
+returns c =
+    let l = c .before .loop in
+    let s = c .before .before .before .before in
+    let a = s .args in
+    let e : l .i ≡ a .n = omega arith in
+    l .inv .2
+    ∙ ap (λ i. patch 0 i (λ r. at (a .m) (a .b .now) r (a .j)) (a .x .now)) e
+    ∙ load-all (a .n) (a .m) (a .j) (a .b .now) (a .x .now) (s .pre .2)
+
+pub load-column-spec : {M : Type 1} → statement M
+load-column-spec =
+    tie.close
+    (tie.spec
+    Inv-loop
+    μ-loop
+    loop-holds
+    entry-requires
+    mul-x
+    slice-write-x
+    add-i
+    loop-less
+    loop-again
+    same-length
+    returns)

@@ -1,0 +1,16 @@
+-- `ask_norm` meets its contract. Assumes nothing.
+use borrow.Author.Needs.{needs}
+use Rattle.questions.proofs.question.ask_norm.Statement.{statement}
+use Rattle.questions.proofs.question.ask_norm.Tie as tie
+
+is-finite-requires : tie.Need-is-finite-requires
+is-finite-requires c κs = search needs
+
+ask-requires : tie.Need-ask-requires
+ask-requires c κs = search needs
+
+returns : tie.Need-returns
+returns c = rw (c .before .is-finite .ensures) at (c .ask .ensures)
+
+pub ask-norm-spec : {M : Type 1} → statement M
+ask-norm-spec = tie.close (tie.spec is-finite-requires ask-requires returns)

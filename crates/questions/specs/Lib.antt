@@ -1,0 +1,4 @@
+pub mod Result
+pub mod Questions
+pub mod Answers
+pub mod Outputs

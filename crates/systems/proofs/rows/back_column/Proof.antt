@@ -1,0 +1,78 @@
+-- `back_column` meets its contract. The invariant: the last n - k columns of the factors are done. The measure is k.
+-- Assumes nothing.
+use Prim.Native.Nat.{_-_, _*_, _≤_}
+use native.Mathlib.Omega.{arith}
+use mathlib.Core.Path.{_≡_, refl, sym, _∙_}
+use lib.ListN.{length}
+use lib.Ieee.{binary64}
+use Rattle.arithmetic.specs.Matrix.{part, put}
+use Rattle.arithmetic.proofs.PartLaws.{put-part}
+use Rattle.factoring.specs.Solve.{back}
+use Rattle.systems.proofs.RowSteps.{back-column-turn}
+use borrow.Author.Needs.{needs}
+use Rattle.systems.proofs.rows.back_column.Statement.{statement}
+use Rattle.systems.proofs.rows.back_column.Tie as tie
+
+abbrev Inv-loop : tie.InvT-loop
+Inv-loop w₀ f x n k₀ w k = (k ≤ n) × (length w ≡ length w₀) × (w ≡ put w₀ x (back binary64 n (part w₀ f (n * n)) (part w₀ x n) (n - k)))
+
+abbrev μ-loop : tie.MeasureT-loop
+μ-loop w₀ f x n k₀ w k = k
+
+loop-holds : tie.Need-loop-holds Inv-loop μ-loop
+unfolding back
+loop-holds c =
+    let s = c .before in
+    let a = s .args in
+    let e : a .n - a .n ≡ 0 = omega arith in
+    (omega arith, refl, rw e (sym (put-part (a .w .now) (a .x) (a .n) (s .pre .1))))
+
+sub-k : tie.Need-sub-k Inv-loop μ-loop
+sub-k c = search needs
+
+back-column-step-requires : tie.Need-back-column-step-requires Inv-loop μ-loop
+back-column-step-requires c κs =
+    let turn = c .before in
+    let l = turn .before .loop in
+    let s = turn .before .before .before in
+    (omega arith, omega (arith, s .pre .0, l .inv .1), omega (arith, s .pre .1, l .inv .1), s .pre .2)
+
+loop-less : tie.Need-loop-less Inv-loop μ-loop
+loop-less c = search needs
+
+loop-again : tie.Need-loop-again Inv-loop μ-loop
+loop-again c =
+    let call = c .before .before in
+    let turn = call .before .before in
+    let l = turn .before .loop in
+    let s = turn .before .before .before in
+    let a = s .args in (
+      omega (arith, l .inv .0),
+      call .back-column-step .kept .0 ∙ l .inv .1,
+      back-column-turn binary64 (a .f) (a .x) (a .n) (a .w .now) (l .w) (call .back-column-step .last .0) (s .pre .1) (s .pre .2)
+          (l .k) (turn .loop-test .taken) (l .inv .0) (l .inv .2) (call .back-column-step .ensures),
+    )
+
+same-length : tie.Need-same-length Inv-loop μ-loop
+same-length c = search needs
+
+returns : tie.Need-returns Inv-loop μ-loop
+returns c =
+    let l = c .before .loop in
+    let n = c .before .before .before .args .n in
+    let e : n - l .k ≡ n = omega arith in
+    rw e at (l .inv .2)
+
+pub back-column-spec : {M : Type 1} → statement M
+back-column-spec =
+    tie.close
+    (tie.spec
+    Inv-loop
+    μ-loop
+    loop-holds
+    sub-k
+    back-column-step-requires
+    loop-less
+    loop-again
+    same-length
+    returns)

@@ -1,0 +1,73 @@
+-- `invert` meets its contract: the identity is stored beside the matrix, which is as it was. Assumes nothing.
+use Prim.Native.Nat.{_*_}
+use mathlib.Core.Path.{ap, _∙_}
+use mathlib.Core.List.{List}
+use lib.ListN.{length}
+use lib.Ieee.{Float, binary64}
+use denote.Ref.{now}
+use Rattle.arithmetic.specs.Matrix.{part}
+use Rattle.arithmetic.specs.Product.{identityM}
+use Rattle.arithmetic.specs.Workspace.{slot}
+use Rattle.arithmetic.proofs.MatrixLaws.{square-le}
+use Rattle.arithmetic.proofs.ProductLaws.{length-identityM}
+use Rattle.arithmetic.proofs.Slots.{slots-apart, slot-other}
+use Rattle.factoring.specs.Lu.{luOutcome}
+use Rattle.factoring.specs.Solve.{divided}
+use native.Mathlib.Omega.{arith}
+use borrow.Author.Needs.{needs}
+use Rattle.systems.proofs.workspace.invert.Statement.{statement}
+use Rattle.systems.proofs.workspace.invert.Tie as tie
+
+identity-requires : tie.Need-identity-requires
+identity-requires c κs = search needs
+
+mul-divide : tie.Need-mul-divide
+mul-divide c = search needs
+
+mul-divide-2 : tie.Need-mul-divide-2
+mul-divide-2 c = search needs
+
+divide-requires : tie.Need-divide-requires
+divide-requires c κs =
+    let call = c .before .before .before .before in
+    let s = call .before .before .before .before in
+    let few = square-le (s .args .n) (s .pre .0 .order) in
+    let long = call .identity .kept .0 in (
+      omega (arith, s .pre .0 .order),
+      omega (arith, few, long, s .pre .0 .space, s .pre .1 .0),
+      omega (arith, few, long, s .pre .0 .space, s .pre .1 .1),
+      slots-apart (s .args .a) (s .args .b) (s .args .n * s .args .n) (s .args .n * s .args .n) (s .pre .1 .2) few few,
+      s .pre .1 .3,
+    )
+
+same-length : tie.Need-same-length
+same-length c = search needs
+
+same-length-2 : tie.Need-same-length-2
+same-length-2 c = search needs
+
+returns : tie.Need-returns
+unfolding slot
+returns c =
+    let call = c .before .before .before .before in
+    let first = call .before .before .before .before .before in
+    let s = first .before .before .before .before in
+    let a = s .args in
+    let few = square-le (a .n) (s .pre .0 .order) in
+    let e = first .identity .ensures in
+    let apart = slots-apart (a .a) (a .b) (a .n * a .n) (length (identityM (a .n))) (s .pre .1 .2) few (omega (arith, few, length-identityM (a .n))) in (
+      call .divide .ensures .0 ∙ ap (λ (v : List Float). luOutcome binary64 (a .n) (part v (256 * a .a) (a .n * a .n))) e ∙ ap (luOutcome binary64 (a .n)) (slot-other (a .n) (now (a .w)) (a .a) (a .b) (identityM (a .n)) apart),
+      call .divide .ensures .1 ∙ ap (λ (v : List Float). divided binary64 (a .n) (a .n) (256 * a .a) (256 * a .b) v (call .divide .result)) e,
+    )
+
+pub invert-spec : {M : Type 1} → statement M
+invert-spec =
+    tie.close
+    (tie.spec
+    identity-requires
+    mul-divide
+    mul-divide-2
+    divide-requires
+    same-length
+    same-length-2
+    returns)
