@@ -13,6 +13,7 @@ use lib.Ieee.Scale.{round-same}
 use lib.Ieee.Order.{round-mono, le-of-values}
 use lib.Ieee.Positive.{through}
 use Rattle.floats.specs.Float.{magnitude}
+use Rattle.floats.proofs.Order.{or-le}
 use Rattle.floats.proofs.Whole.{ofInt-exact}
 use Rattle.factoring.specs.Lu.{tolerance}
 
@@ -46,14 +47,6 @@ units-upright f q k = go (ltb (q * 2 ^ k) (2 ^ (low f + suc (emax f))))
 pub round-upright : (f : Format) (a c : ℕ) → T (upright (round f false a c))
 round-upright f a c = subst (λ (x : Float). T (upright x)) (sym (round-is f false a c)) (units-upright f _ _)
 
-at-most : (a b : ℕ) → T (ltb a b || (eqb a b && true)) → a ≤ b
-at-most a b t = go (ltb a b) (eqb a b) (ltb→lt a b) (eqb→eq a b) t
-  where
-    go : (x y : Bool) → (T x → a < b) → (T y → a ≡ b) → T (x || (y && true)) → a ≤ b
-    go true y l e t = le-of-lt (l tt)
-    go false true l e t = le-of-eq (e tt)
-    go false false l e t = absurd t
-
 pub le-trans-upright : (x y z : Float) → T (upright x) → T (upright y) → T (upright z) → T (le x y) → T (le y z) → T (le x z)
 unfolding le lt eq
 le-trans-upright nan y z p q r h k = absurd h
@@ -76,7 +69,7 @@ le-trans-upright (fin false m e) (fin false n d) (inf false) p q r h k = tt
 le-trans-upright (fin false m e) (fin false n d) (fin true o g) p q r h k = absurd r
 le-trans-upright (fin false m e) (fin false n d) (fin false o g) p q r h k =
     le-of-values (fin false m e) (fin false o g) (m * up e) (down e) (o * up g) (down g) (down-pos e) (down-pos g) (refl, refl) (refl, refl)
-    (through (m * up e) (n * up d) (o * up g) (down e) (down d) (down g) (down-pos d) (at-most (m * up e * down d) (n * up d * down e) h) (at-most (n * up d * down g) (o * up g * down d) k))
+    (through (m * up e) (n * up d) (o * up g) (down e) (down d) (down g) (down-pos d) (or-le (m * up e * down d) (n * up d * down e) h) (or-le (n * up d * down g) (o * up g * down d) k))
 
 -- ---- the tolerance is order / 2 ^ (prec - 1), rounded
 pub tolerance-of : (f : Format) (k n : ℕ) (y : Float) → HasValue y false n 1 → mul f (fin false 1 (negsuc k)) y ≡ round f false n (2 ^ suc k)

@@ -10,6 +10,7 @@ use lib.Dec.{T, ltb, eqb, ltb→lt, lt→ltb, eqb→eq}
 use lib.Pow.{pow-pos}
 use lib.Ieee.{Float, nan, inf, fin, up, down, lt, eq, le, isNan, toSigned}
 use lib.Ieee.Fits.{down-pos, eq→eqb}
+use Rattle.floats.proofs.Order.{or-le}
 
 -- 2 ^ 63 and -2 ^ 63
 abbrev pub big : Float
@@ -19,14 +20,6 @@ abbrev pub lowest : Float
 lowest = fin true 1 (pos 63)
 
 -- ---- a comparison that passed, one that failed
-
-or-le : (a b : ℕ) → T (ltb a b || (eqb a b && true)) → a ≤ b
-or-le a b h = go (ltb a b) (eqb a b) (ltb→lt a b) (eqb→eq a b) h
-  where
-    go : (s t : Bool) → (T s → a < b) → (T t → a ≡ b) → T (s || (t && true)) → a ≤ b
-    go true t x y h = le-of-lt (x tt)
-    go false true x y h = le-of-eq (y tt)
-    go false false x y h = absurd h
 
 or-left : (s t : Bool) → T s → T (s || t)
 or-left true t u = tt
