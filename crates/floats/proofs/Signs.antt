@@ -1,53 +1,41 @@
 -- Magnitude and finiteness, by the tests that a program makes. Assumes nothing.
 use mathlib.Core.Path.{_≡_, refl}
-use mathlib.Core.Bool.{Bool, true, false, not, _&&_}
-use Prim.Native.Nat.{ℕ, zero, suc, _+_, _*_}
-use native.Mathlib.Nat.{zero-mul}
+use mathlib.Core.Bool.{true, false, not}
+use Prim.Native.Nat.{ℕ, zero, suc}
+use native.Mathlib.Nat.{zero-mul, zero-add, mul-one, one-mul, mul-pos, zero-lt-suc}
 use native.Mathlib.Omega.{arith}
 use lib.IntN.{ℤ, pos}
-use lib.Dec.{T, eqb}
-use lib.Ieee.{Float, nan, inf, fin, up, down, isNan, lt, eq, neg}
-use lib.Ieee.Fits.{up-pos}
+use lib.Dec.{T}
+use lib.Ieee.{Float, nan, inf, fin, Format, isNan, lt, neg, sum, add, sub}
+use lib.Ieee.Fits.{up-pos, down-pos, neg-fits}
 use lib.Ieee.Scale.{finite}
-use borrow.Author.Tests.{ltb-true, ltb-false, eqb-true}
+use borrow.Author.Tests.{ltb-true, ltb-false}
 use Rattle.floats.specs.Float.{+zero, magnitude}
+use Rattle.floats.proofs.Zero.{Fits, zero-exp, round-fit, round-zero, plus-of-positive, add-zero-right}
 
-and-true : (a b : Bool) → a && b ≡ true → a ≡ true
-and-true true b h = refl
-and-true false b h = h
+-- ---- magnitude, by the sign's test
 
--- ---- magnitude, by the sign's tests
+-- below zero it is the difference from +0
+pub negative : (f : Format) (x : Float) → Fits f x → lt x +zero ≡ true → sub f +zero x ≡ magnitude x
+unfolding lt sub add neg sum magnitude
+negative f nan fit h = cc
+negative f (inf true) fit h = refl
+negative f (inf false) fit h = cc
+negative f (fin true zero e) fit h = absurd (omega (arith, ltb-true))
+negative f (fin true (suc m) e) fit h =
+    round-fit f false (suc m) e _ _ (mul-pos (zero-lt-suc 0) (down-pos e)) (neg-fits f (fin true (suc m) e) fit) (simp (zero-mul, zero-add, one-mul, mul-one))
+negative f (fin false m e) fit h = absurd (omega (arith, ltb-true))
 
--- below zero it is the negation
-pub negative : (x : Float) → lt x +zero ≡ true → neg x ≡ magnitude x
-unfolding lt neg magnitude
-negative nan h = cc
-negative (inf true) h = refl
-negative (inf false) h = cc
-negative (fin true zero e) h = absurd (omega (arith, ltb-true))
-negative (fin true (suc m) e) h = refl
-negative (fin false m e) h = absurd (omega (arith, ltb-true))
-
--- zero
-pub level-zero : (x : Float) → eq x +zero ≡ true → +zero ≡ magnitude x
-unfolding eq magnitude
-level-zero nan h = cc
-level-zero (inf s) h = cc
-level-zero (fin s zero e) h = refl
-level-zero (fin s (suc m) e) h =
-    let t : eqb (suc m * up e * down (pos 0)) (0 * up (pos 0) * down e) ≡ true = and-true _ _ h in
-    absurd (omega (arith, up-pos e, eqb-true))
-
--- neither: above zero, or NaN
-pub positive : (x : Float) → lt x +zero ≡ false → eq x +zero ≡ false → x ≡ magnitude x
-unfolding lt eq magnitude
-positive nan h k = refl
-positive (inf true) h k = cc
-positive (inf false) h k = refl
-positive (fin true zero e) h k = let z = simp zero-mul at k in cc
-positive (fin true (suc m) e) h k = absurd (omega (arith, ltb-false, up-pos e))
-positive (fin false zero e) h k = let z = simp zero-mul at k in cc
-positive (fin false (suc m) e) h k = refl
+-- otherwise the sum with +0, which has no sign where both are zeros
+pub not-negative : (f : Format) (x : Float) → Fits f x → lt x +zero ≡ false → add f x +zero ≡ magnitude x
+unfolding lt add sum magnitude
+not-negative f nan fit h = refl
+not-negative f (inf true) fit h = cc
+not-negative f (inf false) fit h = refl
+not-negative f (fin true zero e) fit h = rw (zero-exp f true e fit) (round-zero f false 1 (zero-lt-suc 0))
+not-negative f (fin false zero e) fit h = rw (zero-exp f false e fit) (round-zero f false 1 (zero-lt-suc 0))
+not-negative f (fin true (suc m) e) fit h = absurd (omega (arith, ltb-false, up-pos e))
+not-negative f (fin false (suc m) e) fit h = add-zero-right f (fin false (suc m) e) +zero fit (plus-of-positive (suc m) e) (false, refl)
 
 -- ---- finite: between the infinities
 

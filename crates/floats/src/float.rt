@@ -12,13 +12,7 @@ ghost use Rattle.floats.specs.Float.{halvings, powerOfTwo, inversePowerO
 pub fn magnitude(x: f64) -> f64
     ensures { λ r. ⌜ r ≡ magnitudeOf x ⌝ }
 {
-    if x < 0.0 {
-        -x
-    } else if x == 0.0 {
-        0.0
-    } else {
-        x
-    }
+    if x < 0.0 { 0.0 - x } else { x + 0.0 }
 }
 
 // b where a < b, and a otherwise.

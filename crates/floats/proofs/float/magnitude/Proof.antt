@@ -1,21 +1,19 @@
--- `magnitude` meets its contract: one law for each way through the two tests.
+-- `magnitude` meets its contract: one law for each side of the test.
 -- Assumes nothing.
-use lib.Ieee.{ofBits}
-use Rattle.floats.proofs.Signs.{negative, level-zero, positive}
+use mathlib.Core.Path.{subst, sym}
+use lib.Dec.{T}
+use lib.Ieee.{binary64, ofBits}
+use Rattle.floats.proofs.Signs.{negative, not-negative}
 use Rattle.floats.proofs.float.magnitude.Statement.{statement}
 use Rattle.floats.proofs.float.magnitude.Tie as tie
 
 returns : tie.Need-returns
 unfolding ofBits
-returns c = negative (c .before .args .x) (c .if1 .taken)
+returns c = negative binary64 (c .before .args .x) (subst T (sym (c .before .good .0 .1)) tt) (c .if1 .taken)
 
 returns-2 : tie.Need-returns-2
 unfolding ofBits
-returns-2 c = level-zero (c .before .before .args .x) (c .if2 .taken)
-
-returns-3 : tie.Need-returns-3
-unfolding ofBits
-returns-3 c = positive (c .before .before .args .x) (c .before .if1 .left) (c .if2 .left)
+returns-2 c = not-negative binary64 (c .before .args .x) (subst T (sym (c .before .good .0 .1)) tt) (c .if1 .left)
 
 pub magnitude-spec : {M : Type 1} → statement M
-magnitude-spec = tie.close (tie.spec returns returns-2 returns-3)
+magnitude-spec = tie.close (tie.spec returns returns-2)
