@@ -1,16 +1,18 @@
 -- Lengths of texts, and texts one piece longer. Assumes nothing.
 use Prim.Native.Nat.{ℕ, zero, suc, _+_, _-_, _/_, _%_, _^_, _≤_, _<_}
-use mathlib.Core.Bool.{Bool, true, false}
+use mathlib.Core.Bool.{Bool, true, false, _&&_}
 use mathlib.Core.Path.{_≡_, refl, ap, sym}
 use mathlib.Core.List.{List, [], _∷_, _++_, append-nil, append-assoc}
 use native.Mathlib.Omega.{arith}
 use native.Mathlib.Numerals.{add-one}
 use native.Mathlib.Nat.{pow-succ'}
 use borrow.Author.Tests.{lt-ltb, le-ltb}
-use lib.Dec.{ltb}
+use borrow.Author.Count.{below-more}
+use lib.Dec.{T, ltb, eqb, eqb→eq}
 use lib.ListN.{length, take, drop, getD, set, length-append}
 use lib.Seq.{take-suc, drop-at, set-split, append-snoc, length-take-le}
 use lib.Ieee.{Float, Format, nan, toBits}
+use lib.Ieee.Fits.{and-l, and-r}
 use Rattle.encoding.specs.Text.{glyph, hexDigits, orNone, decimalIn, decimal, numberText, field, numbersText}
 use Rattle.encoding.specs.Wrote.{Wrote}
 use Rattle.encoding.proofs.WroteLaws.{wrote-more}
@@ -21,6 +23,27 @@ pub length-hexDigits : (k n : ℕ) → length (hexDigits k n) ≡ k
 unfolding hexDigits
 length-hexDigits zero n = refl
 length-hexDigits (suc k) n = simp (length-append, length-hexDigits k (n / 16)) (omega arith)
+
+-- the digits in order
+abbrev pub digits : List ℕ
+digits = 48 ∷ 49 ∷ 50 ∷ 51 ∷ 52 ∷ 53 ∷ 54 ∷ 55 ∷ 56 ∷ 57 ∷ 97 ∷ 98 ∷ 99 ∷ 100 ∷ 101 ∷ 102 ∷ []
+
+-- each stands at its place: a test that is computed
+right : ℕ → Bool
+right d = eqb (getD digits d 0) (glyph d)
+
+every : ℕ → Bool
+every zero = true
+every (suc k) = right k && every k
+
+under : (k : ℕ) → T (every k) → (d : ℕ) → d < k → T (right d)
+unfolding every
+under zero h d l = absurd (omega arith)
+under (suc k) h d l = below-more (λ (d : ℕ). T (right d)) k (under k (and-r (right k) (every k) h)) (and-l (right k) (every k) h) d (omega arith)
+
+pub digit-at : (d : ℕ) → d < 16 → getD digits d 0 ≡ glyph d
+unfolding right every
+digit-at d l = eqb→eq (getD digits d 0) (glyph d) (under 16 tt d l)
 
 -- the places from k on stand; the digit before them is one more
 pub hex-step : (k n : ℕ) (p : List ℕ) → 0 < k → k ≤ length p → hexDigits (k - 1) (n / 16) ++ drop (k - 1) (set p (k - 1) (glyph (n % 16))) ≡ hexDigits k n ++ drop k p

@@ -8,12 +8,14 @@ ghost use Rattle.encoding.specs.Text.{hexDigits, decimal, numberText, fi
 ghost use Rattle.encoding.specs.Wrote.{Wrote};
 use floats::float::bits_of;
 
+const DIGITS: [u8; 16] = *b"0123456789abcdef";
+
 // A digit below 16.
 fn glyph(d: u64) -> u8
     requires { ⌜ d < 16 ⌝ }
     ensures { λ r. ⌜ r ≡ glyphOf d ⌝ }
 {
-    if d < 10 { 48 + d as u8 } else { 87 + d as u8 }
+    DIGITS[d as usize]
 }
 
 // One byte.
@@ -25,15 +27,16 @@ pub fn put_byte(out: &mut [u8], at: usize, b: u8) -> usize
     at + 1
 }
 
-// The last hexadecimal digits of n over part, from the last place to the first.
+// The last hexadecimal digits of n over part, from the last place to the first. Each use of a constant copies it, so the loop reads one copy.
 fn write_digits(part: &mut [u8], n: u64)
     ensures { λ _. ⌜ now (part .exit) ≡ hexDigits (length (now (part .entry))) n ⌝ }
 {
+    let digits = DIGITS;
     let mut rest = n;
     let mut left = part.len();
     while 0 < left {
         left -= 1;
-        part[left] = glyph(rest % 16);
+        part[left] = digits[(rest % 16) as usize];
         rest = rest / 16;
     }
 }

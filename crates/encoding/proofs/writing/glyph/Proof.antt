@@ -1,27 +1,14 @@
 -- `glyph` meets its contract. Assumes nothing.
 use borrow.Author.Needs.{needs}
-use borrow.Author.Tests.{lt-ltb, le-ltb}
+use Rattle.encoding.proofs.TextLaws.{digit-at}
 use Rattle.encoding.proofs.writing.glyph.Statement.{statement}
 use Rattle.encoding.proofs.writing.glyph.Tie as tie
 
-cast-result : tie.Need-cast-result
-cast-result c = search needs
-
-add-result : tie.Need-add-result
-add-result c = search needs
-
-cast-result-2 : tie.Need-cast-result-2
-cast-result-2 c = search needs
-
-add-result-2 : tie.Need-add-result-2
-add-result-2 c = search needs
+array-read-result : tie.Need-array-read-result
+array-read-result c = search needs
 
 returns : tie.Need-returns
-returns c = rw (lt-ltb (c .before .args .d) 10 (c .if1 .taken))
-
-returns-2 : tie.Need-returns-2
-returns-2 c = rw (le-ltb (c .before .args .d) 10 (c .if1 .left))
+returns c = digit-at (c .args .d) (search needs)
 
 pub glyph-spec : {M : Type 1} → statement M
-glyph-spec =
-    tie.close (tie.spec cast-result add-result cast-result-2 add-result-2 returns returns-2)
+glyph-spec = tie.close (tie.spec array-read-result returns)

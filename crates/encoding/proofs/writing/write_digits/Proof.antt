@@ -1,5 +1,5 @@
 -- `write_digits` meets its contract. Assumes nothing.
-use Prim.Native.Nat.{_≤_}
+use Prim.Native.Nat.{_%_, _≤_}
 use mathlib.Core.Path.{_≡_, refl, _∙_}
 use mathlib.Core.List.{_++_, append-nil}
 use native.Mathlib.Omega.{arith}
@@ -7,24 +7,24 @@ use lib.ListN.{length, drop, length-set, drop-of-length-le}
 use denote.Ref.{now}
 use borrow.Author.Needs.{needs}
 use Rattle.encoding.specs.Text.{hexDigits}
-use Rattle.encoding.proofs.TextLaws.{hex-step}
+use Rattle.encoding.proofs.TextLaws.{digit-at, hex-step}
 use Rattle.encoding.proofs.writing.write_digits.Statement.{statement}
 use Rattle.encoding.proofs.writing.write_digits.Tie as tie
 
 abbrev Inv-loop : tie.InvT-loop
-Inv-loop part₀ n rest₀ left₀ part rest left = (left ≤ length part₀) × (length part ≡ length part₀) × (hexDigits left rest ++ drop left part ≡ hexDigits (length part₀) n)
+Inv-loop part₀ n digits rest₀ left₀ part rest left = (left ≤ length part₀) × (length part ≡ length part₀) × (hexDigits left rest ++ drop left part ≡ hexDigits (length part₀) n)
 
 abbrev μ-loop : tie.MeasureT-loop
-μ-loop part₀ n rest₀ left₀ part rest left = left
+μ-loop part₀ n digits rest₀ left₀ part rest left = left
 
 loop-holds : tie.Need-loop-holds Inv-loop μ-loop
-loop-holds c = let p = now (c .before .args .part) in (omega arith, refl, rw (drop-of-length-le p {i = length p} (omega arith), append-nil))
+loop-holds c = let p = now (c .args .part) in (omega arith, refl, rw (drop-of-length-le p {i = length p} (omega arith), append-nil))
 
 sub-left : tie.Need-sub-left Inv-loop μ-loop
 sub-left c = search needs
 
-glyph-requires : tie.Need-glyph-requires Inv-loop μ-loop
-glyph-requires c κs = search needs
+array-read-part : tie.Need-array-read-part Inv-loop μ-loop
+array-read-part c = search needs
 
 slice-write-part : tie.Need-slice-write-part Inv-loop μ-loop
 slice-write-part c = search needs
@@ -34,8 +34,8 @@ loop-less c = search needs
 
 loop-again : tie.Need-loop-again Inv-loop μ-loop
 loop-again c =
-    let l = c .before .before .loop in
-    (omega arith, simp length-set (l .inv .1), rw (c .glyph .ensures) (hex-step (l .left) (l .rest) (l .part) (omega arith) (omega arith) ∙ l .inv .2))
+    let l = c .before .loop in
+    (omega arith, simp length-set (l .inv .1), rw (digit-at (l .rest % 16) (omega arith)) (hex-step (l .left) (l .rest) (l .part) (omega arith) (omega arith) ∙ l .inv .2))
 
 same-length : tie.Need-same-length Inv-loop μ-loop
 same-length c = search needs
@@ -55,7 +55,7 @@ write-digits-spec =
     μ-loop
     loop-holds
     sub-left
-    glyph-requires
+    array-read-part
     slice-write-part
     loop-less
     loop-again
