@@ -43,7 +43,7 @@ fn write_digits(part: &mut [u8], n: u64)
 
 // The last k hexadecimal digits of n.
 pub fn put_hex(out: &mut [u8], at: usize, k: usize, n: u64) -> usize
-    requires { ⌜ (k ≤ 16) × (at + k ≤ length (now out)) ⌝ }
+    requires { ⌜ at + k ≤ length (now out) ⌝ }
     ensures { λ r. ⌜ Wrote (now (out .entry)) at (hexDigits k n) (now (out .exit)) r ⌝ }
 {
     let z = at + k;
