@@ -8,3 +8,4 @@ pub mod CallLaws
 pub mod TwoCalls
 pub mod LogDerivativeLaws
 pub mod RootDerivativeLaws
+pub mod NumberLaws

@@ -1,3 +1,4 @@
 pub mod Passes
 pub mod Rooting
 pub mod Frechet
+pub mod Number

@@ -68,7 +68,7 @@ fn sylvester(w: &mut [f64], n: usize) -> bool
 }
 
 // Of order 1: e / (2 r), or +0 where the root r is not above 0.
-fn scalar_derivative(r: f64, e: f64) -> f64
+pub fn scalar_derivative(r: f64, e: f64) -> f64
     ensures { λ d. ⌜ d ≡ scalarDerivative binary64 r e ⌝ }
 {
     if r > 0.0 { e / (2.0 * r) } else { 0.0 }
