@@ -4,6 +4,8 @@ ghost use lib.ListN.{length};
 use functions::condition::cond_expm;
 use functions::expm::expm;
 use functions::frechet::frechet_expm;
+use logarithms::frechet_logm;
+use logarithms::logm;
 use powers::cosm;
 use powers::powm;
 use powers::sinm;
@@ -16,9 +18,7 @@ use recorded::outcome::same_call;
 use recorded::outcome::same_values;
 use recorded::tally::Verdict;
 use recorded::tally::judged;
-use roots::frechet_logm;
 use roots::frechet_sqrtm;
-use roots::logm;
 use roots::sqrtm;
 
 pub enum Function {

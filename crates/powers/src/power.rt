@@ -12,8 +12,8 @@ use arithmetic::workspace::times;
 use floats::float::integer_of;
 use floats::float::is_integer;
 use functions::expm::expm_in;
+use logarithms::logarithm::logm_in;
 use questions::answer::Outcome;
-use roots::logarithm::logm_in;
 
 // The exponential of p times the matrix in slot 0 takes its place, with no halvings reported.
 fn multiple_exponential(w: &mut [f64], n: usize, p: f64) -> Outcome

@@ -1,11 +1,8 @@
--- Laws that the proofs of this crate cite.
+-- Laws that the proofs of this crate and of the crates above cite.
 pub mod IterateLaws
 pub mod PassLaws
-pub mod NewtonLaws
 pub mod SquareRootLaws
-pub mod LogarithmLaws
 pub mod CallLaws
 pub mod TwoCalls
-pub mod LogDerivativeLaws
 pub mod RootDerivativeLaws
 pub mod NumberLaws

@@ -1,33 +1,15 @@
--- What the parts of the derivatives leave in a workspace. Definitions only.
+-- What the parts of the derivative of the square root leave in a workspace. Definitions only.
 use Prim.Native.Nat.{ℕ, _*_}
 use mathlib.Core.Path.{_≡_}
 use mathlib.Core.Bool.{Bool, true, false, cond}
 use mathlib.Core.List.{List, [], _∷_}
 use lib.Dec.{eqb}
 use lib.Ieee.{Float, Format, add}
-use Rattle.arithmetic.specs.Product.{accumulateM, differenceQuotientM}
-use Rattle.questions.specs.Result.{Result, refused, done, _>>=_}
-use Rattle.questions.specs.Outputs.{Both}
+use Rattle.questions.specs.Result.{Result, refused, done}
 use Rattle.arithmetic.specs.Workspace.{slot, member, Only}
 use Rattle.factoring.specs.declared.LuOutcome.{LuOutcome}
 use Rattle.factoring.specs.Lu.{luOutcome, luFactors, luPivots}
 use Rattle.factoring.specs.Solve.{solved, whereFactored}
-use Rattle.functions.specs.Logarithm.{logarithm}
-use Rattle.functions.specs.Derivatives.{logStep}
-
--- ---- the logarithm
-
--- what follows the first logarithm, l, of the matrix a: the one of a moved a step in the direction e, and the difference quotient
-unfoldable pub shiftedLogarithm : Format → ℕ → List Float → List Float → List Float → Result Both
-shiftedLogarithm f n e a l = logarithm f n (accumulateM f n (logStep f) e a) >>= λ m. done 0 (record { value = l; derivative = differenceQuotientM f n (logStep f) m l })
-
--- the difference quotient of the logarithms in slots 0 and 6 goes to slot 1, and the one in slot 6 to slot 0
-pub record QuotientPlaced (f : Format) (n : ℕ) (w w′ : List Float) : Type 0 where
-  pub value : slot n w′ 0 ≡ slot n w 6
-  pub derivative : slot n w′ 1 ≡ differenceQuotientM f n (logStep f) (slot n w 0) (slot n w 6)
-  pub only : Only (member (0 ∷ 1 ∷ [])) w w′
-
--- ---- the square root
 
 -- x with v added to it where i is j
 abbrev pub addedWhere : Format → Float → ℕ → ℕ → Float → Float

@@ -1,4 +1,3 @@
 pub mod Passes
-pub mod Rooting
 pub mod Frechet
 pub mod Number

@@ -19,13 +19,13 @@ use encoding::reading::read_numbers;
 use functions::condition::cond_expm_with;
 use functions::expm::expm_with;
 use functions::frechet::frechet_expm_with;
+use logarithms::frechet_logm_with;
+use logarithms::logm_with;
 use powers::cosm_with;
 use powers::powm_with;
 use powers::sinm_with;
 use questions::answer::Answer;
-use roots::frechet_logm_with;
 use roots::frechet_sqrtm_with;
-use roots::logm_with;
 use roots::sqrtm_with;
 
 // The function with a code from 0 to 5 of the n by n matrix a is written to x. p is the exponent of code 3.

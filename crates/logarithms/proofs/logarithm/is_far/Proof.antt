@@ -1,0 +1,17 @@
+-- `is_far` meets its contract: the constant is 0.1. Assumes nothing.
+use lib.Ieee.{ofBits, round}
+use Rattle.floats.specs.Float.{constant}
+use Rattle.functions.specs.Logarithm.{isFar, near}
+use borrow.Author.Needs.{needs}
+use Rattle.logarithms.proofs.logarithm.is_far.Statement.{statement}
+use Rattle.logarithms.proofs.logarithm.is_far.Tie as tie
+
+norm-1-minus-identity-requires : tie.Need-norm-1-minus-identity-requires
+norm-1-minus-identity-requires c κs = search needs
+
+returns : tie.Need-returns
+unfolding ofBits round constant near isFar
+returns c = rw (c .norm-1-minus-identity .ensures)
+
+pub is-far-spec : {M : Type 1} → statement M
+is-far-spec = tie.close (tie.spec norm-1-minus-identity-requires returns)

@@ -1,0 +1,2 @@
+pub mod Rooting
+pub mod Frechet
