@@ -3,3 +3,4 @@ pub mod FewLaws
 pub mod TaskLaws
 pub mod SheetLaws
 pub mod FirstBytes
+pub mod NumberLaws

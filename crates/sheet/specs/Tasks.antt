@@ -107,6 +107,17 @@ pub record TasksRoom (s : List ℕ) (q n d t : ℕ) (out : List ℕ) (a w : List
   pub space : 35000 ≤ length out
   pub workspace : length w ≡ 8192
 
+-- the codes of sqrtm and frechet_sqrtm
+abbrev pub RootCode : ℕ → Type 0
+RootCode code = (code ≡ 2 → ⊥) → code ≡ 8
+
+-- the task at q has such a code and, where that is 8, its direction is there; the order is 1
+pub record RootTask (s : List ℕ) (q : ℕ) : Type 0 where
+  pub there : q + 1 < length s
+  pub code : RootCode (byteAt s q)
+  pub direction : byteAt s q ≡ 8 → directionAt 1 (byteAt s (q + 1)) + 8 ≤ length s
+  pub index : byteAt s q ≡ 8 → byteAt s (q + 1) ≤ 8
+
 -- An output of fewer than 35,000 bytes is left as it was, and 0 reported. Any other begins with the lines, and is as it was after them. There are never
 -- more than 35,000 bytes of lines.
 pub record Entered (f : Format) (s out out′ : List ℕ) (r : ℕ) : Type 0 where

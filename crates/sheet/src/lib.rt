@@ -1,19 +1,11 @@
 // The exported entry: a sheet's tasks are run, and a line is written for each.
-ghost use lib.ListN.{length};
-ghost use mathlib.Core.Path.{_≡_};
 ghost use lib.Ieee.{binary64};
 ghost use Rattle.sheet.specs.Tasks.{Entered};
 
+pub mod number;
 pub mod position;
 pub mod run;
 pub mod task;
-
-// Room for a workspace.
-fn workspace_room() -> [f64; 8192]
-    ensures { λ r. ⌜ 8192 ≡ length r ⌝ }
-{
-    [0.0f64; 8192]
-}
 
 // The lines of the sheet's tasks are written to out, and the number of bytes written is reported. An out of fewer than 35,000 bytes is refused
 // before the sheet is read: 0 is reported, and no byte written.
@@ -24,6 +16,5 @@ pub extern "C" fn axis_sheet(sheet: &[u8], out: &mut [u8]) -> usize
     if out.len() < 35000 {
         return 0;
     }
-    let mut w = workspace_room();
-    run::run(sheet, out, &mut w)
+    run::run(sheet, out)
 }

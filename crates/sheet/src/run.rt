@@ -6,6 +6,8 @@ ghost use lib.Ieee.{binary64};
 ghost use Rattle.encoding.specs.Parse.{SheetIs, tasksAt};
 ghost use Rattle.sheet.specs.Tasks.{taskLines, sheetLines, TasksRoom};
 ghost use Rattle.encoding.specs.Wrote.{AllLines};
+use crate::number::are_roots;
+use crate::number::run_roots;
 use crate::position::exponent_at;
 use crate::task::run_task;
 use arithmetic::workspace::small_room;
@@ -100,13 +102,36 @@ fn run_with_room(
     )
 }
 
+// Room for a workspace.
+fn workspace_room() -> [f64; 8192]
+    ensures { λ r. ⌜ 8192 ≡ length r ⌝ }
+{
+    [0.0f64; 8192]
+}
+
+// The lines of an accepted sheet. Where every task is the root of a number no workspace is made: writing its 8,192 numbers would take as long as the tasks.
+fn run_accepted(s: &[u8], n: usize, d: usize, e: usize, t: usize, out: &mut [u8]) -> usize
+    requires { ⌜ SheetIs (now s) n d e t ⌝ }
+    requires { ⌜ 35000 ≤ length (now out) ⌝ }
+    ensures { λ r. ⌜ AllLines (now (out .entry)) (taskLines binary64 (now (s .entry)) n d (tasksAt n d e + 1) t) (now (out .exit)) r ⌝ }
+{
+    if n == 1 {
+        let q = exponent_at(n, d, e) + 1;
+        if are_roots(s, q, t) {
+            return run_roots(s, q, t, out);
+        }
+    }
+    let mut w = workspace_room();
+    run_with_room(s, n, d, e, t, out, &mut w)
+}
+
 // The lines of a sheet.
-pub fn run(s: &[u8], out: &mut [u8], w: &mut [f64]) -> usize
-    requires { ⌜ (35000 ≤ length (now out)) × (length (now w) ≡ 8192) ⌝ }
+pub fn run(s: &[u8], out: &mut [u8]) -> usize
+    requires { ⌜ 35000 ≤ length (now out) ⌝ }
     ensures { λ r. ⌜ AllLines (now (out .entry)) (sheetLines binary64 (now (s .entry))) (now (out .exit)) r ⌝ }
 {
     match parse_sheet(s) {
         Parse::Refused(k, p) => put_refused(out, 0, 0, coded(k, p, 0)),
-        Parse::Sheet(n, d, e, t) => run_with_room(s, n, d, e, t, out, w),
+        Parse::Sheet(n, d, e, t) => run_accepted(s, n, d, e, t, out),
     }
 }

@@ -1,0 +1,64 @@
+-- `are_roots` meets its contract: the invariant says it of the tasks passed. Assumes nothing.
+use Prim.Native.Nat.{ℕ, _+_, _*_, _-_, _≤_, _<_}
+use mathlib.Core.Path.{_≡_}
+use borrow.Author.Count.{below-more}
+use borrow.Author.Tests.{not-false}
+use Rattle.encoding.specs.Bytes.{byteAt}
+use Rattle.sheet.specs.Tasks.{RootCode}
+use native.Mathlib.Omega.{arith}
+use borrow.Author.Needs.{needs}
+use Rattle.sheet.proofs.number.are_roots.Statement.{statement}
+use Rattle.sheet.proofs.number.are_roots.Tie as tie
+
+abbrev Inv-loop : tie.InvT-loop
+Inv-loop s q t k₀ k = (k ≤ t) × ((j : ℕ) → j < k → RootCode (byteAt s (q + 2 * j)))
+
+abbrev μ-loop : tie.MeasureT-loop
+μ-loop s q t k₀ k = t - k
+
+loop-holds : tie.Need-loop-holds Inv-loop μ-loop
+loop-holds c = (omega arith, λ j h. absurd (omega arith))
+
+mul-is-root : tie.Need-mul-is-root Inv-loop μ-loop
+mul-is-root c = omega (arith, c .before .before .before .pre .0)
+
+add-is-root : tie.Need-add-is-root Inv-loop μ-loop
+add-is-root c = omega (arith, c .before .before .before .pre .1 (c .before .loop .k) (c .loop-test .taken))
+
+shared-slice-read-is-root : tie.Need-shared-slice-read-is-root Inv-loop μ-loop
+shared-slice-read-is-root c = c .before .before .before .before .pre .1 (c .before .before .loop .k) (c .before .loop-test .taken)
+
+is-root-requires : tie.Need-is-root-requires Inv-loop μ-loop
+is-root-requires c κs = search needs
+
+returns : tie.Need-returns Inv-loop μ-loop
+returns c = λ h. let z : _≡_ {A = ℕ} 0 1 = cc in absurd (omega arith)
+
+add-k : tie.Need-add-k Inv-loop μ-loop
+add-k c = omega (arith, c .before .before .before .before .before .before .pre .0)
+
+loop-less : tie.Need-loop-less Inv-loop μ-loop
+loop-less c = omega arith
+
+loop-again : tie.Need-loop-again Inv-loop μ-loop
+loop-again c = (omega arith, below-more _ _ (c .before .before .before .before .loop .inv .1) (c .before .is-root .ensures (not-false _ (c .if1 .left))))
+
+returns-2 : tie.Need-returns-2 Inv-loop μ-loop
+returns-2 c = λ h j l. c .before .loop .inv .1 j (omega arith)
+
+pub are-roots-spec : {M : Type 1} → statement M
+are-roots-spec =
+    tie.close
+    (tie.spec
+    Inv-loop
+    μ-loop
+    loop-holds
+    mul-is-root
+    add-is-root
+    shared-slice-read-is-root
+    is-root-requires
+    returns
+    add-k
+    loop-less
+    loop-again
+    returns-2)
