@@ -2,6 +2,7 @@
 use Prim.Native.Nat.{ℕ, _+_, _*_, _≤_, _<_}
 use native.Mathlib.Omega.{arith}
 use mathlib.Core.Path.{_≡_, ap, sym, subst, _∙_}
+use mathlib.Core.Logic.{inl, inr}
 use mathlib.Core.List.{List, [], _∷_}
 use lib.ListN.{length}
 use lib.Ieee.{Float, Format, binary64}
@@ -32,6 +33,11 @@ unfolding derivativeFor
 few-derivative-number a e = few-derivative 1 a e 8
 
 -- ---- what such a task gives
+
+-- a root's code that is not 2
+pub derivative-code : {code : ℕ} → RootCode code → (code ≡ 2 → ⊥) → code ≡ 8
+derivative-code (inl e) h = absurd (h e)
+derivative-code (inr e) h = e
 
 module _ (f : Format) (s : List ℕ) (d code i : ℕ) (a : List Float) (h : a ≡ numbersAt f s 1 1) where
   pub task-root : code ≡ 2 → sqrtm f 1 1 a 1 8192 ≡ taskResult f s 1 d code i

@@ -2,6 +2,7 @@
 use Prim.Native.Nat.{ℕ, zero, suc, _+_, _*_, _≤_, _<_}
 use mathlib.Core.Bool.{cond}
 use mathlib.Core.Path.{_≡_}
+use mathlib.Core.Logic.{_⊎_}
 use mathlib.Core.List.{List, [], _∷_, _++_}
 use lib.Dec.{eqb, ltb}
 use lib.ListN.{length, drop}
@@ -109,7 +110,7 @@ pub record TasksRoom (s : List ℕ) (q n d t : ℕ) (out : List ℕ) (a w : List
 
 -- the codes of sqrtm and frechet_sqrtm
 abbrev pub RootCode : ℕ → Type 0
-RootCode code = (code ≡ 2 → ⊥) → code ≡ 8
+RootCode code = (code ≡ 2) ⊎ (code ≡ 8)
 
 -- the task at q has such a code and, where that is 8, its direction is there; the order is 1
 pub record RootTask (s : List ℕ) (q : ℕ) : Type 0 where

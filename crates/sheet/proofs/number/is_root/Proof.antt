@@ -1,13 +1,14 @@
 -- `is_root` meets its contract. Assumes nothing.
+use mathlib.Core.Logic.{inl, inr}
 use borrow.Author.Tests.{eqb-true}
 use Rattle.sheet.proofs.number.is_root.Statement.{statement}
 use Rattle.sheet.proofs.number.is_root.Tie as tie
 
 returns : tie.Need-returns
-returns c = λ h z. absurd (z (c .if1 .taken))
+returns c = λ h. inl (c .if1 .taken)
 
 returns-2 : tie.Need-returns-2
-returns-2 c = λ h z. eqb-true _ 8 h
+returns-2 c = λ h. inr (eqb-true _ 8 h)
 
 pub is-root-spec : {M : Type 1} → statement M
 is-root-spec = tie.close (tie.spec returns returns-2)

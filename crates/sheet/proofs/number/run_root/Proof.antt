@@ -4,7 +4,7 @@ use denote.Ref.{now}
 use lib.Ieee.{binary64}
 use Rattle.encoding.specs.Bytes.{byteAt}
 use Rattle.sheet.proofs.TaskLaws.{lined-as}
-use Rattle.sheet.proofs.NumberLaws.{task-root, task-root-derivative}
+use Rattle.sheet.proofs.NumberLaws.{derivative-code, task-root, task-root-derivative}
 use native.Mathlib.Omega.{arith}
 use borrow.Author.Needs.{needs}
 use Rattle.sheet.proofs.number.run_root.Statement.{statement}
@@ -39,7 +39,7 @@ root-derivative-line-requires : tie.Need-root-derivative-line-requires
 root-derivative-line-requires c κs =
     let b = c .before .before .before .before .before .before .before in
     let task = b .pre .1 .0 in
-    let eight = task .code (c .before .before .if1 .left) in
+    let eight = derivative-code (task .code) (c .before .before .if1 .left) in
     (b .pre .0 .0, b .pre .0 .1, task .index eight, task .direction eight)
 
 same-length-2 : tie.Need-same-length-2
@@ -50,7 +50,7 @@ returns-2 c =
     let b = c .before .before .before .before .before .before .before .before .before .before in
     let a = b .args in
     let s = now (a .s) in
-    λ d. lined-as binary64 (a .task) (task-root-derivative binary64 s d (byteAt s (a .q)) (byteAt s (a .q + 1)) (now (a .a)) (b .pre .1 .1) (b .pre .1 .0 .code (c .before .before .before .before .before .if1 .left))) (c .before .before .root-derivative-line .ensures)
+    λ d. lined-as binary64 (a .task) (task-root-derivative binary64 s d (byteAt s (a .q)) (byteAt s (a .q + 1)) (now (a .a)) (b .pre .1 .1) (derivative-code (b .pre .1 .0 .code) (c .before .before .before .before .before .if1 .left))) (c .before .before .root-derivative-line .ensures)
 
 pub run-root-spec : {M : Type 1} → statement M
 run-root-spec =
