@@ -2,7 +2,7 @@
 -- Assumes nothing.
 use Prim.Native.Nat.{ℕ, zero, suc, _+_, _-_, _≤_, _<_}
 use mathlib.Core.Path.{_≡_, refl, ap, _∙_}
-use mathlib.Core.Bool.{Bool, true, false, cond}
+use mathlib.Core.Bool.{Bool, cond}
 use mathlib.Core.List.{List}
 use mathlib.Core.Logic.{⊎-elim}
 use native.Mathlib.Omega.{arith}
@@ -149,15 +149,6 @@ length-back f n F x (suc d) h = length-backStep f n F (n - suc d) (back f n F x 
 pub swaps-turn : (ps : List ℕ) (k c c1 p : ℕ) → c ≡ swaps ps k → p ≡ getD ps k 0 → (b : Bool) → eqb p k ≡ b → c1 ≡ c + cond b 0 1 → c1 ≡ swaps ps (k + 1)
 unfolding swaps
 swaps-turn ps k c c1 p e ep b t e1 = e1 ∙ rw (add-one, ← ep, t, e)
-
-pub swaps-le : (ps : List ℕ) (k : ℕ) → swaps ps k ≤ k
-unfolding swaps
-swaps-le ps zero = omega arith
-swaps-le ps (suc k) = let h = swaps-le ps k in go (eqb (getD ps k 0) k) h
-  where
-    go : (b : Bool) → swaps ps k ≤ k → swaps ps k + cond b 0 1 ≤ suc k
-    go true h = omega arith
-    go false h = omega arith
 
 pub product-turn : (f : Format) (n : ℕ) (F : List Float) (s d d1 v : Float) (k : ℕ) → d ≡ product f n F s k → v ≡ at n F k k → d1 ≡ mul f d v → d1 ≡ product f n F s (k + 1)
 unfolding product

@@ -5,7 +5,7 @@ ghost use Prim.Native.Nat.{ℕ, _+_, _*_, _<_, _≤_};
 ghost use lib.ListN.{length, getD};
 ghost use lib.Ieee.{binary64};
 ghost use Rattle.arithmetic.specs.Matrix.{tab, at, part, patch, put, Apart};
-ghost use Rattle.factoring.specs.Solve.{swapItems, permuted, lowered, lowerEntry, upperEntry, backStep, eachColumn, forward as forwardOf, back as backOf};
+ghost use Rattle.factoring.specs.Solve.{permuted, lowered, lowerEntry, upperEntry, backStep, eachColumn, forward as forwardOf, back as backOf};
 use factoring::swap::exchange_rows;
 
 // Entry (i, k) of the factors.

@@ -1,15 +1,15 @@
-// Systems whose matrix and right-hand matrix stand in one workspace, and columns that are copied out of a right-hand matrix and back.
+// Systems whose matrix and right-hand matrix stand in one workspace.
 ghost use mathlib.Core.Path.{_≡_};
 ghost use mathlib.Core.Bool.{false};
 ghost use Prim.Native.Nat.{ℕ, _+_, _*_, _<_, _≤_};
 ghost use lib.Dec.{eqb};
 ghost use lib.ListN.{length, getD};
 ghost use lib.Ieee.{binary64};
-ghost use Rattle.arithmetic.specs.Matrix.{part, put, column, Apart};
+ghost use Rattle.arithmetic.specs.Matrix.{part, put, Apart};
 ghost use Rattle.arithmetic.specs.Product.{identityM};
 ghost use Rattle.arithmetic.specs.Workspace.{slot, store, Room};
-ghost use Rattle.factoring.specs.Lu.{luOutcome, LuDoneIn};
-ghost use Rattle.factoring.specs.Solve.{withColumn, solvedMatrix, divided};
+ghost use Rattle.factoring.specs.Lu.{luOutcome};
+ghost use Rattle.factoring.specs.Solve.{solvedMatrix, divided};
 use crate::rows::back_rows;
 use crate::rows::forward_rows;
 use crate::rows::permute_rows;

@@ -16,6 +16,10 @@ pub struct Trial {
 const EXPONENTS: [f64; 13] =
     [0.0, 1.0, -1.0, 13.0, -7.0, 2.5, 0.5, 1e-15, 1e19, -1e19, f64::NAN, f64::INFINITY, f64::NEG_INFINITY];
 
+/// The codes of tasks, and those of the square root and its derivative, which the port runs without a workspace at order 1.
+const ALL: [usize; 10] = [0, 1, 2, 3, 4, 5, 6, 7, 8, 9];
+const ROOTS: [usize; 2] = [2, 8];
+
 /// An infinity or a NaN, with any sign and payload.
 fn not_finite(r: &mut Random) -> f64 {
     if r.once_in(2) { r.pick(&NOT_FINITE) } else { f64::from_bits(r.bits() | 0x7ff0 << 48) }
@@ -81,9 +85,9 @@ fn matrix(n: usize, r: &mut Random) -> Vec<f64> {
     a
 }
 
-fn task(directions: usize, exponents: usize, r: &mut Random) -> Task {
+fn task(codes: &[usize], directions: usize, exponents: usize, r: &mut Random) -> Task {
     loop {
-        let mut task = Task { code: r.below(10), index: 0 };
+        let mut task = Task { code: r.pick(codes), index: 0 };
         let indices = match task.function() {
             Function::Powm => exponents,
             f if f.directed() => directions,
@@ -111,7 +115,8 @@ pub fn sheet(r: &mut Random) -> Sheet {
         exponents.push(if r.once_in(2) { r.pick(&EXPONENTS) } else { exponent(r) });
     }
     let count = 1 + r.below(16);
-    let tasks = (0..count).map(|_| task(directions.len(), exponents.len(), r)).collect();
+    let codes: &[usize] = if n == 1 && r.once_in(2) { &ROOTS } else { &ALL };
+    let tasks = (0..count).map(|_| task(codes, directions.len(), exponents.len(), r)).collect();
     Sheet { order: n, matrix, directions, exponents, tasks }
 }
 

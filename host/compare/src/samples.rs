@@ -34,6 +34,12 @@ fn order_1() -> Sheet {
     Sheet { order: 1, matrix: vec![4.0], directions: vec![vec![1.0]], exponents: vec![0.5], tasks: tasks(&codes) }
 }
 
+/// Square roots of a number and nothing else, for which the port makes no workspace.
+fn roots() -> Sheet {
+    let tasks = tasks(&[(2, 0), (8, 0), (8, 1)]);
+    Sheet { order: 1, matrix: vec![2.0], directions: vec![vec![1.0], vec![f64::NAN]], exponents: vec![], tasks }
+}
+
 /// The powers of document 01's bench: the zero matrix to the power -1 and 0; and the condition of the zero matrix of order 4.
 fn zero() -> Sheet {
     let tasks = tasks(&[(3, 0), (3, 1), (9, 0)]);
@@ -61,6 +67,7 @@ pub fn samples() -> Vec<(&'static str, Vec<u8>)> {
         ("every_function", every_function().bytes()),
         ("refusals", refusals().bytes()),
         ("order_1", order_1().bytes()),
+        ("roots", roots().bytes()),
         ("zero", zero().bytes()),
         ("longest", longest().bytes()),
         ("cut", cut),

@@ -1,5 +1,5 @@
 -- `half_up` meets its contract, by the facts of `Halves`. Assumes nothing.
-use Prim.Native.Nat.{_+_, _-_, _/_, _%_, _^_, _≤_}
+use Prim.Native.Nat.{_+_, _-_, _/_, _%_, _^_}
 use native.Mathlib.Nat.{div-le-self}
 use native.Mathlib.Omega.{arith}
 use borrow.Author.Needs.{needs}

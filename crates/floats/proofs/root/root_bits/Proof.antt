@@ -1,5 +1,4 @@
 -- `root_bits` meets its contract, by the facts of `Aligned` at binary64. Assumes nothing.
-use Prim.Native.Nat.{_-_}
 use native.Mathlib.Omega.{arith}
 use borrow.Author.Needs.{needs}
 use lib.Ieee.{binary64}
