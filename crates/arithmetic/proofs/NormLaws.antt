@@ -7,12 +7,13 @@ use mathlib.Core.List.{List}
 use lib.ListN.{getD}
 use lib.Ieee.{Float, Format, nan, add, ofBits}
 use Rattle.floats.specs.Float.{magnitude, larger}
+use Rattle.floats.proofs.Constants.{+zero-bits}
 use Rattle.arithmetic.specs.Matrix.{part, tab, grid, item}
 use Rattle.arithmetic.specs.Product.{dot, sum, minusIdentityEntry, minusIdentityM}
 use Rattle.arithmetic.specs.Norm.{sumOfMagnitudes, largest, norm1, sumOfSquares, trace}
 use Rattle.arithmetic.proofs.MatrixLaws.{getD-tab, at-grid}
 use Rattle.arithmetic.proofs.PartLaws.{at-part}
-use Rattle.arithmetic.proofs.ProductLaws.{+zero-bits, sum-none, sum-more, sum-cong, dot-cong, minusIdentityM-part}
+use Rattle.arithmetic.proofs.ProductLaws.{sum-none, sum-more, sum-cong, dot-cong, minusIdentityM-part}
 
 -- ---- sums of magnitudes
 

@@ -19,3 +19,5 @@ pub mod Halves
 pub mod Whole
 pub mod Ends
 pub mod Nans
+pub mod Constants
+pub mod Widths

@@ -7,7 +7,7 @@ ghost use Rattle.floats.specs.Root.{Scaled, sqrtUnits, sqrtOf};
 // The first `steps` binary digits of the root of `radicand`, which is read as a fraction of 2^64:
 // the whole part of the root of radicand * 4^steps / 2^64. One digit a turn, from the radicand's two
 // next digits: `root * root + rem` is the part of it that was read.
-fn root_digits(radicand: u64, steps: u64) -> u64
+pub fn root_digits(radicand: u64, steps: u64) -> u64
     requires { ⌜ steps ≤ 60 ⌝ }
     ensures { λ r. ⌜ (r * r * 2 ^ 64 ≤ radicand * 4 ^ steps) × (radicand * 4 ^ steps < (r + 1) * (r + 1) * 2 ^ 64) ⌝ }
 {

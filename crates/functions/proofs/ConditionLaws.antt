@@ -7,8 +7,12 @@ use mathlib.Core.Bool.{Bool, cond}
 use mathlib.Core.List.{List}
 use lib.Dec.{ltb}
 use lib.ListN.{length}
-use lib.Ieee.{Float, Format, nan}
-use Rattle.floats.specs.Float.{+zero}
+use lib.IntN.{pos}
+use lib.Ieee.{Float, Format, nan, binary64, emax, hid, div, ofBits, ofInt}
+use Rattle.floats.specs.Float.{+zero, one, constant}
+use Rattle.floats.specs.Root.{sqrtOf}
+use Rattle.floats.proofs.Constants.{one-bits}
+use Rattle.floats.proofs.Widths.{root-once}
 use Rattle.arithmetic.specs.Matrix.{item, part}
 use Rattle.arithmetic.specs.Product.{diagonalM}
 use Rattle.arithmetic.specs.Norm.{frobenius}
@@ -33,6 +37,10 @@ use Rattle.functions.specs.Derivatives.{Condition, unitDirection, condit
 use Rattle.functions.specs.Frechet.{Written}
 use Rattle.functions.specs.Conditions.{Rated, rated, Conditioned}
 use Rattle.functions.proofs.FrechetLaws.{late-frechetExpM}
+
+-- the entries of the unit direction, as the code has them: v is the order, r its root
+pub unit-number : (f : Format) (n : ℕ) (v r : Float) → n ≤ 16 → v ≡ ofInt f (pos n) → r ≡ sqrtOf f v → div f (ofBits f (emax f * hid f)) r ≡ div f one (constant f (sqrtOf binary64 (ofInt binary64 (pos n))))
+unit-number f n v r h e k = λ i. div f (one-bits f i) ((k ∙ ap (sqrtOf f) e ∙ sym (root-once f n h)) i)
 
 -- all of a list is a part of it
 pub part-all : (x : List Float) (k : ℕ) → length x ≡ k → part x 0 k ≡ x

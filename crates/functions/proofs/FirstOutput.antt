@@ -8,7 +8,7 @@ use native.Mathlib.Nat.{lt-of-lt-of-le, le-trans, zero-add}
 use native.Mathlib.Omega.{arith}
 use lib.Dec.{ltb, lt→ltb, lit≤}
 use lib.Arith.{le→nltb}
-use lib.Ieee.{Float, Format, binary64, prec}
+use lib.Ieee.{Float, Format, binary32, binary64, prec}
 use lib.Ieee.Bits.{is-true, is-false}
 use Rattle.floats.specs.Float.{+zero}
 use Rattle.arithmetic.specs.Matrix.{at}
@@ -57,9 +57,13 @@ first-output-alone f n s a e h v =
     let c = exponential-corner f n (n + n) (double n) h s a (block n a e) (block-corner n a e) (v .finite) (v .accepted) in
     sym (grid-is n n (λ i j. at (n + n) X i (0 + j)) (exponential f n s a) (length-exponential f n s a) (λ i j I J. sym (ap (at (n + n) X i) (zero-add j) ∙ c .same i j I J)))
 
--- binary64 counts every order that a call takes
-pub counted : (n : ℕ) → n ≤ 8 → n + n ≤ 2 ^ prec binary64
-counted n h = let few : n + n ≤ 16 = omega arith in let most : 16 ≤ 2 ^ prec binary64 = lit≤ tt in le-trans few most
+-- each format counts every order that a call takes
+pub counted : (f : Format) (n : ℕ) → n ≤ 8 → n + n ≤ 2 ^ prec f
+counted f n h = let few : n + n ≤ 16 = omega arith in le-trans few (most f)
+  where
+    most : (f : Format) → 16 ≤ 2 ^ prec f
+    most binary32 = lit≤ tt
+    most binary64 = lit≤ tt
 
 -- A run that is done wrote the upper left quarter: so its first output is the exponential of A, whatever the direction, the workspace and the outputs were.
 pub written-alone : (f : Format) (n : ℕ) (a e first first′ second second′ w w′ : List Float) (o : Outcome) → n + n ≤ 2 ^ prec f

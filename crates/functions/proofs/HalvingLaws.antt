@@ -1,11 +1,11 @@
 -- What the halvings that a norm sets decide. Assumes nothing.
-use Prim.Native.Nat.{ℕ, _≤_}
+use Prim.Native.Nat.{ℕ, suc, _≤_}
 use native.Mathlib.Omega.{arith}
 use mathlib.Core.Path.{_≡_, refl, sym, ap, _∙_, subst}
 use mathlib.Core.Bool.{Bool, true, false, cond}
 use mathlib.Core.List.{List}
 use lib.Dec.{T, lit≤}
-use lib.Ieee.{Float, binary64, fits}
+use lib.Ieee.{Float, Format, emax, fits}
 use lib.Ieee.Scale.{finite}
 use Rattle.floats.specs.Float.{halvings}
 use Rattle.arithmetic.specs.Workspace.{slot, member, Only}
@@ -68,9 +68,9 @@ module _ (x : Float) (q : Question) where
       go true p = ap (λ (t : ℕ). done t (tt {0})) k
       go false p = absurd (subst IsDone p tt)
 
--- a number of the format has at most 1,024
-pub passed-few : (x : Float) (s t : ℕ) → T (fits binary64 x) → t ≡ halvings x → done t (tt {0}) ≡ done s (tt {0}) → s ≤ 1024
-passed-few x s t h k e = let few : halvings x ≤ 1024 = halvings-le binary64 x h in let same : t ≡ s = ap reportedHalvings e in omega arith
+-- a number of the format has at most as many as its largest exponent, and one: 1,024 for binary64, 128 for binary32
+pub passed-few : (f : Format) (x : Float) (s t : ℕ) → T (fits f x) → t ≡ halvings x → done t (tt {0}) ≡ done s (tt {0}) → s ≤ suc (emax f)
+passed-few f x s t h k e = let few : halvings x ≤ suc (emax f) = halvings-le f x h in let same : t ≡ s = ap reportedHalvings e in omega arith
 
 module _ {A : Type 0} (x : Float) (g : ℕ → A) where
   -- what is done at these halvings reports them

@@ -16,28 +16,28 @@ use questions::question::ask_square;
 use questions::question::first_no;
 
 // 3: is the second matrix square?
-fn ask_second_square(rows: usize, columns: usize) -> Question
+pub fn ask_second_square(rows: usize, columns: usize) -> Question
     ensures { λ r. ⌜ found r ≡ askOf (eqb rows columns) 3 rows columns ⌝ }
 {
     ask(rows == columns, Refusal::CompanionShape(rows, columns))
 }
 
 // 4, of two numbers.
-fn ask_both_at_most(x: usize, y: usize, limit: usize) -> Question
+pub fn ask_both_at_most(x: usize, y: usize, limit: usize) -> Question
     ensures { λ r. ⌜ found r ≡ firstNo (atMost limit x ∷ atMost limit y ∷ []) ⌝ }
 {
     first_no(ask_at_most(x, limit), ask_at_most(y, limit))
 }
 
 // 4, of the rows and columns of two matrices, m by n and p by q.
-fn ask_sizes(m: usize, n: usize, p: usize, q: usize) -> Question
+pub fn ask_sizes(m: usize, n: usize, p: usize, q: usize) -> Question
     ensures { λ r. ⌜ found r ≡ firstNo (atMost 64 m ∷ atMost 64 n ∷ atMost 64 p ∷ atMost 64 q ∷ []) ⌝ }
 {
     first_no(ask_both_at_most(m, n, 64), ask_both_at_most(p, q, 64))
 }
 
 // 4, of the sizes and then of their products, which are formed only after their factors passed.
-fn ask_products(m: usize, n: usize, p: usize, q: usize) -> Question
+pub fn ask_products(m: usize, n: usize, p: usize, q: usize) -> Question
     ensures { λ r. ⌜ found r ≡ firstNo (atMost 64 m ∷ atMost 64 n ∷ atMost 64 p ∷ atMost 64 q ∷ atMost 64 (m * p) ∷ atMost 64 (n * q) ∷ []) ⌝ }
 {
     let sizes = ask_sizes(m, n, p, q);

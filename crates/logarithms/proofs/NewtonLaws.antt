@@ -1,14 +1,15 @@
 -- Laws of a pass of Newton's iteration in a workspace. Assumes nothing.
-use Prim.Native.Nat.{ℕ}
+use Prim.Native.Nat.{ℕ, _+_, _-_, _*_}
 use native.Mathlib.Omega.{arith}
 use mathlib.Core.Path.{_≡_, refl, sym, ap, _∙_}
 use mathlib.Core.Bool.{Bool, true, false, cond}
 use mathlib.Core.List.{List, [], _∷_}
 use mathlib.Core.Option.{none, some}
 use lib.IntN.{pos}
-use lib.Ieee.{Float, Format, binary64, lt, div, ofInt, ofBits}
+use lib.Ieee.{Float, Format, prec, emax, hid, lt, div, ofInt, ofBits}
 use Rattle.floats.specs.Float.{one, epsilon}
 use Rattle.floats.specs.Root.{sqrtOf}
+use Rattle.floats.proofs.Constants.{one-bits, epsilon-bits}
 use Rattle.arithmetic.specs.Product.{meanM, diagonalM}
 use Rattle.arithmetic.specs.Norm.{difference, trace}
 use Rattle.arithmetic.specs.Workspace.{Room, slot, store, member, Only}
@@ -84,14 +85,16 @@ module _ (f : Format) (n : ℕ) (w₀ : List Float) (r : Room n w₀) where
 
 -- ---- the start's scale, by the test that the code makes
 
-module _ (n : ℕ) (w : List Float) (t d x : Float) (et : t ≡ trace binary64 n (slot n w 0)) (ed : d ≡ ofInt binary64 (pos n)) (ex : x ≡ sqrtOf binary64 (div binary64 t d)) where
-  scale-root : x ≡ sqrtOf binary64 (div binary64 (trace binary64 n (slot n w 0)) (ofInt binary64 (pos n)))
-  scale-root = ex ∙ (λ i. sqrtOf binary64 (div binary64 (et i) (ed i)))
+module _ (f : Format) (n : ℕ) (w : List Float) (t d x : Float) (et : t ≡ trace f n (slot n w 0)) (ed : d ≡ ofInt f (pos n)) (ex : x ≡ sqrtOf f (div f t d)) where
+  scale-root : x ≡ sqrtOf f (div f (trace f n (slot n w 0)) (ofInt f (pos n)))
+  scale-root = ex ∙ (λ i. sqrtOf f (div f (et i) (ed i)))
 
-  pub scale-above : lt (ofBits binary64 0x3cb0_0000_0000_0000) x ≡ true → x ≡ newtonScale binary64 n (slot n w 0)
-  unfolding newtonScale ofBits
-  scale-above e = ap (λ (b : Bool). cond b x one) (sym e) ∙ ap (λ (y : Float). cond (lt (epsilon binary64) y) y one) scale-root
+  scale-is : (b : Bool) → lt (ofBits f ((emax f + 1 - prec f) * hid f)) x ≡ b → cond b x one ≡ newtonScale f n (slot n w 0)
+  unfolding newtonScale
+  scale-is b e = ap (λ (b : Bool). cond b x one) (sym e ∙ ap (λ (y : Float). lt y x) (epsilon-bits f)) ∙ ap (λ (y : Float). cond (lt (epsilon f) y) y one) scale-root
 
-  pub scale-one : lt (ofBits binary64 0x3cb0_0000_0000_0000) x ≡ false → ofBits binary64 0x3ff0_0000_0000_0000 ≡ newtonScale binary64 n (slot n w 0)
-  unfolding newtonScale ofBits
-  scale-one e = ap (λ (b : Bool). cond b x one) (sym e) ∙ ap (λ (y : Float). cond (lt (epsilon binary64) y) y one) scale-root
+  pub scale-above : lt (ofBits f ((emax f + 1 - prec f) * hid f)) x ≡ true → x ≡ newtonScale f n (slot n w 0)
+  scale-above e = scale-is true e
+
+  pub scale-one : lt (ofBits f ((emax f + 1 - prec f) * hid f)) x ≡ false → ofBits f (emax f * hid f) ≡ newtonScale f n (slot n w 0)
+  scale-one e = one-bits f ∙ scale-is false e

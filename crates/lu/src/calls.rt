@@ -35,7 +35,7 @@ pub struct DeterminantAnswer {
 }
 
 // Copies src to dst, which is as long.
-fn copy_pivots(dst: &mut [usize], src: &[usize])
+pub fn copy_pivots(dst: &mut [usize], src: &[usize])
     requires { ⌜ length (now src) ≡ length (now dst) ⌝ }
     ensures { λ _. ⌜ now (dst .exit) ≡ now (src .entry) ⌝ }
 {
@@ -94,7 +94,7 @@ fn compute_with_room(
 }
 
 // Question 14: done, or refused by the column that did not pass.
-fn answer_of(outcome: LuOutcome) -> Answer
+pub fn answer_of(outcome: LuOutcome) -> Answer
     ensures { λ r. ⌜ reported (r .outcome) ≡ luReport outcome ⌝ }
 {
     match outcome {

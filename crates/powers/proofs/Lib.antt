@@ -1,4 +1,5 @@
 -- Laws that the proofs of this crate cite.
+pub mod ReciprocalLaws
 pub mod SeriesLaws
 pub mod ReplacedLaws
 pub mod WholeLaws

@@ -5,8 +5,7 @@ use mathlib.Core.Bool.{true, not}
 use Prim.Native.Nat.{ℕ, _+_, _<_}
 use native.Mathlib.Numerals.{add-one}
 use native.Mathlib.Omega.{arith}
-use lib.Count.{trailingZeros}
-use lib.Ieee.{Float, Format, binary64, add, ofBits, ofFields, odd}
+use lib.Ieee.{Float, Format, add}
 use Rattle.floats.specs.Float.{one, powerOfTwo, inversePowerOfTwo}
 use Rattle.arithmetic.specs.Product.{mulM, timesM, scaleM, identityM, minusIdentityM, deductM, accumulateM, addMultipleM}
 use Rattle.arithmetic.specs.Workspace.{Room, slot, store, member, Only}
@@ -20,11 +19,6 @@ use Rattle.functions.specs.Exponential.{scaled}
 use Rattle.functions.proofs.HalvingLaws.{halvings-late}
 use Rattle.functions.specs.Trigonometric.{oneOver, cosineTo6, cosineTo8, cosineBeside, sineTo7, cosineDoubled, sineDoubled, cosineAt, sineAt, trigonometricHalvings, cosM, sinM}
 use Rattle.powers.specs.Series.{EvenPowers, Sixth, Beside, Eighth, OddPowers, Seventh, BothSeries, Doubled, CosineDoubled, BothDoubled, CosineAfter, BothAfter, CosineRun, SineRun}
-
--- the constant 2.0 of the code
-pub two-bits : ofBits binary64 0x4000_0000_0000_0000 ≡ powerOfTwo 1
-unfolding ofBits ofFields odd trailingZeros
-two-bits = refl
 
 -- a slot that a call does not change
 pub slot-kept : (n : ℕ) {w w′ : List Float} (ss : List ℕ) → Room n w → Only (member ss) w w′ → (s : ℕ) → picks (λ t. not (member ss t)) s 1 ≡ true → slot n w′ s ≡ slot n w s

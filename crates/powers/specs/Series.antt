@@ -8,6 +8,10 @@ use Rattle.arithmetic.specs.Product.{mulM, timesM, minusIdentityM, deductM, add
 use Rattle.arithmetic.specs.Workspace.{slot, member, Only}
 use Rattle.functions.specs.Trigonometric.{oneOver, cosineTo6, cosineTo8, cosineBeside, sineTo7, cosineDoubled, sineDoubled, cosineAt, sineAt}
 
+-- the whole numbers whose reciprocals the series take
+abbrev pub reciprocals : List ℕ
+reciprocals = 2 ∷ 6 ∷ 24 ∷ 120 ∷ 720 ∷ 5040 ∷ 40320 ∷ []
+
 -- ---- even powers of X, as the cosine's sum forms them
 
 abbrev pub secondPower : Format → ℕ → List Float → List Float

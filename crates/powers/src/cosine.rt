@@ -1,14 +1,14 @@
 // The cosine of the matrix X of order n in slot 0: X2, X4 and X6, powers of X, stand in slots 1, 2 and 3, and the cosine in slot 4.
 ghost use mathlib.Core.Path.{_≡_};
-ghost use Prim.Native.Nat.{_^_, _<_, _≤_};
+ghost use Prim.Native.Nat.{_<_, _≤_};
 ghost use mathlib.Core.Bool.{false};
 ghost use mathlib.Core.List.{[], _∷_};
-ghost use lib.Dec.{eqb};
+ghost use lib.Dec.{T, eqb};
 ghost use lib.Ieee.{binary64};
-ghost use Rattle.arithmetic.specs.Workspace.{Room, slot};
+ghost use Rattle.arithmetic.specs.Workspace.{Room, slot, member};
 ghost use Rattle.questions.specs.Outputs.{Replaced};
 ghost use Rattle.functions.specs.Trigonometric.{oneOver, cosM};
-ghost use Rattle.powers.specs.Series.{EvenPowers, Sixth, Beside, Eighth, Doubled, CosineDoubled, CosineAfter, CosineRun};
+ghost use Rattle.powers.specs.Series.{reciprocals, EvenPowers, Sixth, Beside, Eighth, Doubled, CosineDoubled, CosineAfter, CosineRun};
 use arithmetic::norm::norm_1;
 use arithmetic::workspace::accumulate;
 use arithmetic::workspace::copy;
@@ -23,9 +23,9 @@ use floats::float::of_small;
 use functions::halvings::halvings_for;
 use questions::answer::Outcome;
 
-// The rounded reciprocal of k.
+// The rounded reciprocal of k, one of those that the series take.
 pub fn one_over(k: usize) -> f64
-    requires { ⌜ k ≤ 2 ^ 53 ⌝ }
+    requires { ⌜ T (member reciprocals k) ⌝ }
     ensures { λ r. ⌜ r ≡ oneOver binary64 k ⌝ }
 {
     1.0 / of_small(k)

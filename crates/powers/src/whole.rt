@@ -96,14 +96,14 @@ fn inverse_power(w: &mut [f64], n: usize, e: u64) -> Outcome
 }
 
 // Whether e is below 0.
-fn is_negative(e: i64) -> bool
+pub fn is_negative(e: i64) -> bool
     ensures { λ r. ⌜ r ≡ isNegative e ⌝ }
 {
     e < 0
 }
 
 // The magnitude of e. That of the least `i64` is 2^63.
-fn size_of(e: i64) -> u64
+pub fn size_of(e: i64) -> u64
     ensures { λ r. ⌜ r ≡ natAbs e ⌝ }
 {
     if is_negative(e) {

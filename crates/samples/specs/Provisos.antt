@@ -32,4 +32,4 @@ proviso = record { finite = run-ok binary64 2 2 (block 1 matrix direction) runs;
 
 -- so the run's first output is the exponential of A alone
 pub alone : quarter 1 0 (exponential binary64 2 2 (block 1 matrix direction)) ≡ exponential binary64 1 2 matrix
-alone = first-output-alone binary64 1 2 matrix direction (counted 1 (lit≤ tt)) proviso
+alone = first-output-alone binary64 1 2 matrix direction (counted binary64 1 (lit≤ tt)) proviso

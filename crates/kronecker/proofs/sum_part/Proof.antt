@@ -6,9 +6,9 @@ use borrow.Author.Needs.{needs}
 use lib.ListN.{length, length-set}
 use lib.Ieee.{binary64, add, mul}
 use Rattle.floats.specs.Float.{one}
+use Rattle.floats.proofs.Constants.{one-bits}
 use Rattle.arithmetic.specs.Matrix.{tab, at, put}
 use Rattle.arithmetic.specs.Product.{diagonalEntry}
-use Rattle.arithmetic.proofs.ProductLaws.{one-bits}
 use Rattle.arithmetic.proofs.PartLaws.{put-none, put-tab-more}
 use Rattle.kronecker.proofs.sum_part.Statement.{statement}
 use Rattle.kronecker.proofs.sum_part.Tie as tie
@@ -56,7 +56,7 @@ loop-again : tie.Need-loop-again Inv-loop μ-loop
 unfolding at
 loop-again c =
     let l = c .before .before .before .loop in
-    (omega arith, simp length-set (l .inv .1), rw (c .before .diagonal-entry .ensures, one-bits, l .inv .2) (put-tab-more _ _ _ _))
+    (omega arith, simp length-set (l .inv .1), rw (c .before .diagonal-entry .ensures, one-bits binary64, l .inv .2) (put-tab-more _ _ _ _))
 
 same-length : tie.Need-same-length Inv-loop μ-loop
 same-length c = omega arith

@@ -4,8 +4,8 @@ use native.Mathlib.Omega.{arith}
 use mathlib.Core.Path.{_≡_, ap, _∙_}
 use borrow.Author.Needs.{needs}
 use lib.Ieee.{binary64}
+use Rattle.floats.proofs.Constants.{one-bits}
 use Rattle.arithmetic.specs.Matrix.{at, put}
-use Rattle.arithmetic.proofs.ProductLaws.{one-bits}
 use Rattle.arithmetic.proofs.MatrixLaws.{row-end}
 use Rattle.functions.specs.Kronecker.{kronSumEntry}
 use Rattle.functions.proofs.KroneckerLaws.{Filled, filled-none, filled-more, row-parts}
@@ -61,7 +61,7 @@ unfolding kronSumEntry at
 loop-again c =
     let at-loop = c .before .before .before .before .before .before .before in
     let a = at-loop .before .before .before .before .args in
-    let e = rw (c .before .before .before .diagonal-entry .ensures, one-bits) at (c .before .before .sum-part .ensures) in
+    let e = rw (c .before .before .before .diagonal-entry .ensures, one-bits binary64) at (c .before .before .sum-part .ensures) in
     (omega arith, filled-more _ _ _ _ (λ j. kronSumEntry binary64 (a .m) (a .a .now) (a .p) (a .b .now) (a .i) j (a .k)) _ _ _ (at-loop .loop .inv .1) e)
 
 same-length : tie.Need-same-length Inv-loop μ-loop

@@ -1,13 +1,14 @@
 -- `minus_identity_entry` meets its contract. Assumes nothing.
+use lib.Ieee.{binary64}
 use borrow.Author.Tests.{eq-eqb, ne-eqb}
+use Rattle.floats.proofs.Constants.{one-bits}
 use Rattle.arithmetic.specs.Product.{minusIdentityEntry}
-use Rattle.arithmetic.proofs.ProductLaws.{one-bits}
 use Rattle.arithmetic.proofs.norm.minus_identity_entry.Statement.{statement}
 use Rattle.arithmetic.proofs.norm.minus_identity_entry.Tie as tie
 
 returns : tie.Need-returns
 unfolding minusIdentityEntry
-returns c = rw (one-bits, eq-eqb _ _ (c .if1 .taken))
+returns c = rw (one-bits binary64, eq-eqb _ _ (c .if1 .taken))
 
 returns-2 : tie.Need-returns-2
 unfolding minusIdentityEntry

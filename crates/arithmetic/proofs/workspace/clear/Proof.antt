@@ -6,10 +6,10 @@ use mathlib.Core.Path.{_≡_, refl}
 use lib.ListN.{length, length-set}
 use lib.Ieee.{binary64}
 use Rattle.floats.specs.Float.{+zero}
+use Rattle.floats.proofs.Constants.{+zero-bits}
 use Rattle.arithmetic.specs.Matrix.{tab, put}
 use Rattle.arithmetic.specs.Workspace.{cleared}
 use Rattle.arithmetic.proofs.PartLaws.{put-none, put-store0}
-use Rattle.arithmetic.proofs.ProductLaws.{+zero-bits}
 use Rattle.arithmetic.proofs.workspace.clear.Statement.{statement}
 use Rattle.arithmetic.proofs.workspace.clear.Tie as tie
 

@@ -1,8 +1,8 @@
 -- `diagonal_entry` meets its contract. Assumes nothing.
 use lib.Ieee.{binary64}
 use borrow.Author.Tests.{eq-eqb, ne-eqb}
+use Rattle.floats.proofs.Constants.{+zero-bits}
 use Rattle.arithmetic.specs.Product.{diagonalEntry}
-use Rattle.arithmetic.proofs.ProductLaws.{+zero-bits}
 use Rattle.arithmetic.proofs.workspace.diagonal_entry.Statement.{statement}
 use Rattle.arithmetic.proofs.workspace.diagonal_entry.Tie as tie
 

@@ -1,7 +1,8 @@
 -- `identity` meets its contract: it is the multiple of the identity by 1. Assumes nothing.
+use lib.Ieee.{binary64}
 use borrow.Author.Needs.{needs}
+use Rattle.floats.proofs.Constants.{one-bits}
 use Rattle.arithmetic.specs.Product.{identityM}
-use Rattle.arithmetic.proofs.ProductLaws.{one-bits}
 use Rattle.arithmetic.proofs.workspace.identity.Statement.{statement}
 use Rattle.arithmetic.proofs.workspace.identity.Tie as tie
 
@@ -13,7 +14,7 @@ same-length c = search needs
 
 returns : tie.Need-returns
 unfolding identityM
-returns c = rw one-bits at (c .before .before .diagonal .ensures)
+returns c = rw (one-bits binary64) at (c .before .before .diagonal .ensures)
 
 pub identity-spec : {M : Type 1} → statement M
 identity-spec = tie.close (tie.spec diagonal-requires same-length returns)

@@ -7,11 +7,12 @@ use lib.Dec.{eqb}
 use lib.ListN.{length, length-set}
 use lib.Ieee.{Float, binary64, add, mul}
 use Rattle.floats.specs.Float.{half}
+use Rattle.floats.proofs.Constants.{half-bits}
 use Rattle.arithmetic.specs.Matrix.{tab, item, put}
 use Rattle.arithmetic.specs.Workspace.{slot, store}
 use Rattle.arithmetic.proofs.MatrixLaws.{square-le}
 use Rattle.arithmetic.proofs.PartLaws.{put-none, put-store, read-apart}
-use Rattle.arithmetic.proofs.ProductLaws.{half-bits, meanM-parts}
+use Rattle.arithmetic.proofs.ProductLaws.{meanM-parts}
 use Rattle.arithmetic.proofs.Slots.{slots-apart}
 use Rattle.arithmetic.proofs.workspace.mean.Statement.{statement}
 use Rattle.arithmetic.proofs.workspace.mean.Tie as tie
@@ -78,7 +79,7 @@ loop-again c =
     let F : ℕ → Float = λ i. mul binary64 (add binary64 (item (a .w .now) (256 * a .a + i)) (item (a .w .now) (256 * a .b + i))) half in
     let read : (p : ℕ) → eqb p (a .c) ≡ false → item (put (a .w .now) (256 * a .c) (tab (l .k) F)) (256 * p + l .k) ≡ item (a .w .now) (256 * p + l .k) =
     λ p q. read-apart _ _ _ _ _ _ (slots-apart p (a .c) (a .n * a .n) (a .n * a .n) q (l .inv .0) (l .inv .0)) (c .before .before .loop-test .taken) in
-    (l .inv .0, omega arith, simp length-set (l .inv .2), rw (half-bits, l .inv .3) (put-store _ _ _ F _ (λ i. mul binary64 (add binary64 (read (a .a) (s .pre .1 .3) i) (read (a .b) (s .pre .1 .4) i)) half)))
+    (l .inv .0, omega arith, simp length-set (l .inv .2), rw (half-bits binary64, l .inv .3) (put-store _ _ _ F _ (λ i. mul binary64 (add binary64 (read (a .a) (s .pre .1 .3) i) (read (a .b) (s .pre .1 .4) i)) half)))
 
 same-length : tie.Need-same-length Inv-loop μ-loop
 same-length c = omega arith

@@ -5,12 +5,13 @@ use native.Mathlib.Omega.{arith}
 use mathlib.Core.Path.{_≡_, refl}
 use lib.ListN.{length, length-set}
 use lib.Ieee.{binary64}
+use Rattle.floats.proofs.Constants.{one-bits}
 use Rattle.arithmetic.specs.Matrix.{grid, item, put}
 use Rattle.arithmetic.specs.Product.{minusIdentityEntry}
 use Rattle.arithmetic.specs.Workspace.{slot, store}
 use Rattle.arithmetic.proofs.MatrixLaws.{index-lt, square-le, more-rows}
 use Rattle.arithmetic.proofs.PartLaws.{put-no-row}
-use Rattle.arithmetic.proofs.ProductLaws.{one-bits, minusIdentityM-part, minusIdentity-row}
+use Rattle.arithmetic.proofs.ProductLaws.{minusIdentityM-part, minusIdentity-row}
 use Rattle.arithmetic.proofs.workspace.minus_identity.Statement.{statement}
 use Rattle.arithmetic.proofs.workspace.minus_identity.Tie as tie
 
@@ -68,7 +69,7 @@ loop-again c =
       l .inv .1,
       simp length-set (l .inv .2),
       omega (arith, more-rows (l .i) (a .n)),
-      rw (one-bits, l .inv .3, l .inv .4) (minusIdentity-row binary64 (a .n) (a .w .now) (256 * a .a) (l .i) (c .before .loop-test .taken) (omega arith)),
+      rw (one-bits binary64, l .inv .3, l .inv .4) (minusIdentity-row binary64 (a .n) (a .w .now) (256 * a .a) (l .i) (c .before .loop-test .taken) (omega arith)),
     )
 
 same-length : tie.Need-same-length Inv-loop μ-loop

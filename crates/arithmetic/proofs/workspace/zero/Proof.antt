@@ -5,12 +5,12 @@ use mathlib.Core.Path.{_≡_, refl}
 use lib.ListN.{length, length-set}
 use lib.Ieee.{binary64}
 use Rattle.floats.specs.Float.{+zero}
+use Rattle.floats.proofs.Constants.{+zero-bits}
 use Rattle.arithmetic.specs.Matrix.{tab, put}
 use Rattle.arithmetic.specs.Product.{zeroM}
 use Rattle.arithmetic.specs.Workspace.{slot, store}
 use Rattle.arithmetic.proofs.MatrixLaws.{square-le}
 use Rattle.arithmetic.proofs.PartLaws.{put-none, put-store}
-use Rattle.arithmetic.proofs.ProductLaws.{+zero-bits}
 use Rattle.arithmetic.proofs.workspace.zero.Statement.{statement}
 use Rattle.arithmetic.proofs.workspace.zero.Tie as tie
 

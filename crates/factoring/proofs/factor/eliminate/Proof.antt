@@ -3,7 +3,7 @@
 use Prim.Native.Nat.{_≤_, _<_, _-_, _*_, _+_}
 use mathlib.Core.Path.{_≡_, ap, _∙_}
 use lib.ListN.{length}
-use lib.Ieee.{binary64, div, ofBits}
+use lib.Ieee.{binary64, emax, hid, div, ofBits}
 use Rattle.floats.specs.Float.{one}
 use Rattle.arithmetic.specs.Matrix.{rowsTo}
 use Rattle.arithmetic.proofs.PatchLaws.{length-rowsTo}
@@ -29,7 +29,7 @@ loop-holds : tie.Need-loop-holds Inv-loop μ-loop
 loop-holds c =
     let s = c .before .before .before in
     let a = s .args in
-    (omega arith, omega arith, s .pre .1, eliminate-none binary64 (a .n) (a .k) (div binary64 (ofBits binary64 4607182418800017408) (c .entry .result)) (a .m .now))
+    (omega arith, omega arith, s .pre .1, eliminate-none binary64 (a .n) (a .k) (div binary64 (ofBits binary64 (emax binary64 * hid binary64)) (c .entry .result)) (a .m .now))
 
 eliminate-row-requires : tie.Need-eliminate-row-requires Inv-loop μ-loop
 eliminate-row-requires c κs = search needs
@@ -48,7 +48,7 @@ loop-again c =
     let entry1 = turn .before .before in
     let s = entry1 .before .before .before in
     let a = s .args in
-    let t = div binary64 (ofBits binary64 4607182418800017408) (entry1 .entry .result) in
+    let t = div binary64 (ofBits binary64 (emax binary64 * hid binary64)) (entry1 .entry .result) in
     let e =
     eliminate-turn binary64 (a .n) (a .k) t (a .m .now) (l .i) (l .m) (row .eliminate-row .last .0)
     (l .inv .0) (turn .loop-test .taken) (s .pre .1) (l .inv .3) (row .eliminate-row .ensures) in

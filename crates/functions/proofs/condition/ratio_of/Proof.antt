@@ -3,7 +3,7 @@ use mathlib.Core.Path.{sym, ap, _∙_}
 use mathlib.Core.Bool.{Bool, cond}
 use lib.Ieee.{Float, binary64, div, lt}
 use Rattle.floats.specs.Float.{one}
-use Rattle.arithmetic.proofs.ProductLaws.{+zero-bits, one-bits}
+use Rattle.floats.proofs.Constants.{+zero-bits, one-bits}
 use Rattle.functions.proofs.condition.ratio_of.Statement.{statement}
 use Rattle.functions.proofs.condition.ratio_of.Tie as tie
 
@@ -15,7 +15,7 @@ returns c =
 returns-2 : tie.Need-returns-2
 returns-2 c =
     let a = c .before .args in
-    one-bits ∙ sym (ap (λ (b : Bool). cond b (div binary64 (a .d) (a .x)) one) (ap (λ (z : Float). lt z (a .x)) (sym (+zero-bits binary64)) ∙ c .if1 .left))
+    one-bits binary64 ∙ sym (ap (λ (b : Bool). cond b (div binary64 (a .d) (a .x)) one) (ap (λ (z : Float). lt z (a .x)) (sym (+zero-bits binary64)) ∙ c .if1 .left))
 
 pub ratio-of-spec : {M : Type 1} → statement M
 ratio-of-spec = tie.close (tie.spec returns returns-2)

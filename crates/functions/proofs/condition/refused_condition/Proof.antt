@@ -1,7 +1,7 @@
 -- `refused_condition` meets its contract. Assumes nothing.
 use mathlib.Core.Path.{refl}
 use lib.Ieee.{binary64}
-use Rattle.arithmetic.proofs.ProductLaws.{+zero-bits}
+use Rattle.floats.proofs.Constants.{+zero-bits}
 use Rattle.functions.proofs.condition.refused_condition.Statement.{statement}
 use Rattle.functions.proofs.condition.refused_condition.Tie as tie
 

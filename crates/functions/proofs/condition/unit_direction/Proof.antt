@@ -1,18 +1,14 @@
 -- `unit_direction` meets its contract. Assumes nothing.
-use mathlib.Core.Path.{_≡_, ap, _∙_}
+use mathlib.Core.Path.{ap, _∙_}
 use native.Mathlib.Omega.{arith}
 use denote.Ref.{now}
 use lib.Dec.{lit<}
-use lib.IntN.{pos}
-use lib.Ieee.{Float, binary64, div, ofBits, ofInt}
-use Rattle.floats.specs.Float.{one, constant}
-use Rattle.floats.specs.Root.{sqrtOf}
+use lib.Ieee.{Float, binary64}
 use Rattle.arithmetic.specs.Product.{diagonalM}
 use Rattle.arithmetic.specs.Workspace.{store}
 use Rattle.arithmetic.proofs.MatrixLaws.{square-le}
-use Rattle.arithmetic.proofs.ProductLaws.{one-bits}
 use Rattle.functions.specs.Derivatives.{unitDirection}
-use Rattle.functions.proofs.ConditionLaws.{unit-read}
+use Rattle.functions.proofs.ConditionLaws.{unit-number, unit-read}
 use borrow.Author.Needs.{needs}
 use Rattle.functions.proofs.condition.unit_direction.Statement.{statement}
 use Rattle.functions.proofs.condition.unit_direction.Tie as tie
@@ -38,13 +34,13 @@ same-length-2 : tie.Need-same-length-2
 same-length-2 c = search needs
 
 returns : tie.Need-returns
-unfolding unitDirection constant
+unfolding unitDirection
 returns c =
-    let s = c .before .before .before .before .before .before .before .before .before .before .before .before .before in
+    let call = c .before .before .before .before .before .before .before in
+    let s = call .before .before .before .before .before .before in
     let n = s .args .n in
     let w = now (s .args .w) in
-    let d : div binary64 (ofBits binary64 0x3ff0_0000_0000_0000) (c .before .before .before .before .before .before .before .before .sqrt .result) ≡ div binary64 one (sqrtOf binary64 (ofInt binary64 (pos n))) = (λ i. div binary64 (one-bits i) ((c .before .before .before .before .before .before .before .before .sqrt .ensures ∙ ap (sqrtOf binary64) (c .before .before .before .before .before .before .before .before .before .of-small .ensures)) i)) in
-    let stored : c .before .before .before .before .before .before .before .diagonal .last .0 ≡ store w 0 (diagonalM n (div binary64 one (sqrtOf binary64 (ofInt binary64 (pos n))))) = c .before .before .before .before .before .before .before .diagonal .ensures ∙ ap (λ (x : Float). store w 0 (diagonalM n x)) d in
+    let stored = call .diagonal .ensures ∙ ap (λ (x : Float). store w 0 (diagonalM n x)) (unit-number binary64 n _ _ (s .pre .0 .order) (call .before .before .of-small .ensures) (call .before .sqrt .ensures)) in
     (unit-read _ n w _ _ (s .pre .0) (s .pre .1) stored (c .before .before .copy-out .ensures), stored)
 
 pub unit-direction-spec : {M : Type 1} → statement M

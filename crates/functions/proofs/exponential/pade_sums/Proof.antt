@@ -4,8 +4,8 @@ use mathlib.Core.Path.{_≡_, refl, sym, ap, _∙_}
 use native.Mathlib.Omega.{arith}
 use borrow.Author.Needs.{needs}
 use lib.Ieee.{binary64}
+use Rattle.floats.proofs.Constants.{one-bits}
 use Rattle.arithmetic.specs.Workspace.{slot, Room}
-use Rattle.arithmetic.proofs.ProductLaws.{one-bits}
 use Rattle.arithmetic.proofs.States.{State, listed}
 use Rattle.functions.specs.Exponential.{coefficient, nextCoefficient}
 use Rattle.functions.proofs.ExponentialLaws.{summing, sums, sums-none, sums-begin, sums-more, sums-all, sums-end, coefficient-more}
@@ -36,7 +36,7 @@ loop-holds c =
     let a = s .args in
     let H = sums-none binary64 (a .n) (a .w .now) (s .pre) (identity1 .identity .last .0) (zero1 .zero .last .0) (zero2 .zero2 .last .0) (identity1 .identity .ensures) (zero1 .zero .ensures) (zero2 .zero2 .ensures) in (
       omega arith,
-      unfold coefficient in one-bits,
+      unfold coefficient in one-bits binary64,
       sums-begin binary64 (a .n) (a .w .now) (s .pre) (zero2 .zero2 .last .0) H,
       record { order = s .pre .order; space = H .space },
     )

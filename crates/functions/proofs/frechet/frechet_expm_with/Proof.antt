@@ -78,7 +78,7 @@ returns-2 c =
     let clear1 = c .before .before .clear-where in (
       two-written ofFrechetExpm call (asked .result) (asked .ensures) (a .clears) (f .result) x (now (a .first)) (now (a .second)) (now (a .w)) (f .last .1 .1 .1 .0) (f .last .1 .1 .1 .1 .0) (f .last .1 .1 .1 .1 .1 .0) (clear1 .last .0) told
           (late-frechetExpM binary64 (a .rows) (now (a .a)) (now (a .e))) (m .shape .room) (f .ensures) (clear1 .ensures),
-      written-alone binary64 (a .rows) (now (a .a)) (now (a .e)) (now (a .first)) (f .last .1 .1 .1 .0) (now (a .second)) (f .last .1 .1 .1 .1 .0) (now (a .w)) (f .last .1 .1 .1 .1 .1 .0) (f .result) (counted (a .rows) (m .shape .small)) (f .ensures),
+      written-alone binary64 (a .rows) (now (a .a)) (now (a .e)) (now (a .first)) (f .last .1 .1 .1 .0) (now (a .second)) (f .last .1 .1 .1 .1 .0) (now (a .w)) (f .last .1 .1 .1 .1 .1 .0) (f .result) (counted binary64 (a .rows) (m .shape .small)) (f .ensures),
     )
 
 pub frechet-expm-with-spec : {M : Type 1} → statement M

@@ -1,6 +1,7 @@
 -- `halvings_for` meets its contract. Assumes nothing.
 use mathlib.Core.Path.{sym, subst}
 use lib.Dec.{T}
+use lib.Ieee.{binary64}
 use Rattle.functions.proofs.HalvingLaws.{not-done, passed-finite, refused-report, passed-report, passed-few}
 use borrow.Author.Needs.{needs}
 use Rattle.functions.proofs.halvings.halvings_for.Statement.{statement}
@@ -30,7 +31,7 @@ returns-2 c =
     let x = c .before .before .before .before .args .norm in
     let asked = c .before .before .before .ask-norm in
     let told = c .before .enum-told .given .1 in
-    (passed-report x (asked .result) _ (asked .ensures) told (c .halvings-of .ensures), λ s e. passed-few x s _ (subst T (sym (c .before .before .before .before .good .0 .1)) tt) (c .halvings-of .ensures) e)
+    (passed-report x (asked .result) _ (asked .ensures) told (c .halvings-of .ensures), λ s e. passed-few binary64 x s _ (subst T (sym (c .before .before .before .before .good .0 .1)) tt) (c .halvings-of .ensures) e)
 
 pub halvings-for-spec : {M : Type 1} → statement M
 halvings-for-spec =

@@ -1,4 +1,5 @@
 -- `newton_scale` meets its contract. Assumes nothing.
+use lib.Ieee.{binary64}
 use Rattle.logarithms.proofs.NewtonLaws.{scale-above, scale-one}
 use borrow.Author.Needs.{needs}
 use Rattle.logarithms.proofs.newton.newton_scale.Statement.{statement}
@@ -19,7 +20,7 @@ returns c =
     let d = c .before .before .of-small in
     let t = c .before .before .before .trace in
     let a = c .before .before .before .before .before .args in
-    scale-above (a .n) (a .w .now) (t .result) (d .result) (s .result) (t .ensures) (d .ensures) (s .ensures) (c .if1 .taken)
+    scale-above binary64 (a .n) (a .w .now) (t .result) (d .result) (s .result) (t .ensures) (d .ensures) (s .ensures) (c .if1 .taken)
 
 returns-2 : tie.Need-returns-2
 returns-2 c =
@@ -27,7 +28,7 @@ returns-2 c =
     let d = c .before .before .of-small in
     let t = c .before .before .before .trace in
     let a = c .before .before .before .before .before .args in
-    scale-one (a .n) (a .w .now) (t .result) (d .result) (s .result) (t .ensures) (d .ensures) (s .ensures) (c .if1 .left)
+    scale-one binary64 (a .n) (a .w .now) (t .result) (d .result) (s .result) (t .ensures) (d .ensures) (s .ensures) (c .if1 .left)
 
 pub newton-scale-spec : {M : Type 1} → statement M
 newton-scale-spec =

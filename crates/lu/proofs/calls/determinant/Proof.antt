@@ -3,9 +3,9 @@ use mathlib.Core.Path.{sym, ap, _∙_}
 use lib.Ieee.{Float, binary64}
 use denote.Ref.{now}
 use Rattle.floats.specs.Float.{+zero}
+use Rattle.floats.proofs.Constants.{+zero-bits}
 use Rattle.questions.specs.Result.{Result, done, outcome, exit}
 use Rattle.questions.specs.Questions.{ofDeterminant}
-use Rattle.arithmetic.proofs.ProductLaws.{+zero-bits}
 use Rattle.questions.proofs.AnswerLaws.{answer-passed, outcome-no, exit-no}
 use Rattle.factoring.specs.Solve.{determinantOf}
 use Rattle.lu.specs.Calls.{determinant, determinantCall}

@@ -1,8 +1,9 @@
 -- `double` meets its contract: a step for each kernel. Assumes nothing.
 use lib.Dec.{lit≤}
 use lib.Ieee.{binary64}
+use Rattle.floats.proofs.Constants.{two-bits}
 use Rattle.arithmetic.proofs.Slots.{room-kept, eqb-swap}
-use Rattle.powers.proofs.SeriesLaws.{two-bits, double-steps}
+use Rattle.powers.proofs.SeriesLaws.{double-steps}
 use borrow.Author.Needs.{needs}
 use Rattle.powers.proofs.cosine.double.Statement.{statement}
 use Rattle.powers.proofs.cosine.double.Tie as tie
@@ -25,7 +26,7 @@ returns c =
     let first = second .before .before .before .before in
     let s = first .before .before .before in
     let a = s .args in
-    double-steps binary64 (a .n) (a .w .now) (s .pre .0) (a .c) (first .mult .last .0) (second .times .last .0) _ (s .pre .1 .0) two-bits (first .mult .ensures) (second .times .ensures)
+    double-steps binary64 (a .n) (a .w .now) (s .pre .0) (a .c) (first .mult .last .0) (second .times .last .0) _ (s .pre .1 .0) (two-bits binary64) (first .mult .ensures) (second .times .ensures)
 
 pub double-spec : {M : Type 1} → statement M
 double-spec = tie.close (tie.spec mult-requires times-requires same-length returns)

@@ -4,9 +4,9 @@ use mathlib.Core.List.{[], _∷_}
 use lib.Ieee.{binary64, add}
 use Rattle.questions.specs.Answers.{reported}
 use Rattle.floats.specs.Float.{one}
+use Rattle.floats.proofs.Constants.{one-bits}
 use Rattle.arithmetic.specs.Norm.{norm1}
 use Rattle.arithmetic.specs.Workspace.{slot}
-use Rattle.arithmetic.proofs.ProductLaws.{one-bits}
 use Rattle.functions.specs.Powers.{halvingsReport}
 use Rattle.functions.specs.Trigonometric.{sineAt, trigonometricHalvings, sinM}
 use Rattle.functions.proofs.HalvingLaws.{halved-none, halved-done}
@@ -43,7 +43,7 @@ returns c =
     let s = c .before .before .before .before .before .before .before in
     let a = s .args in
     let x = slot (a .n) (a .w .now) 0 in
-    let H = call .halvings-for .ensures .0 ∙ (λ i. halvingsReport (add binary64 (call .before .norm-1 .ensures i) (one-bits i))) in
+    let H = call .halvings-for .ensures .0 ∙ (λ i. halvingsReport (add binary64 (call .before .norm-1 .ensures i) (one-bits binary64 i))) in
     halved-none (0 ∷ 1 ∷ 2 ∷ 3 ∷ 4 ∷ 5 ∷ []) (a .n) (λ s. sineAt binary64 (a .n) s x) (add binary64 (norm1 binary64 (a .n) x) one) (call .halvings-for .result) H (a .w .now) _ (c .before .why .given .1)
 
 same-length-2 : tie.Need-same-length-2
@@ -57,7 +57,7 @@ returns-2 c =
     let s = c .before .before .before .before .before .before .before .before .before .before .before in
     let a = s .args in
     let x = slot (a .n) (a .w .now) 0 in
-    let H = call .halvings-for .ensures .0 ∙ (λ i. halvingsReport (add binary64 (call .before .norm-1 .ensures i) (one-bits i))) in
+    let H = call .halvings-for .ensures .0 ∙ (λ i. halvingsReport (add binary64 (call .before .norm-1 .ensures i) (one-bits binary64 i))) in
     halved-done (0 ∷ 1 ∷ 2 ∷ 3 ∷ 4 ∷ 5 ∷ []) (a .n) (λ s. sineAt binary64 (a .n) s x) (add binary64 (norm1 binary64 (a .n) x) one) (call .halvings-for .result) H (a .w .now) _ (run .sine-at .last .0) (c .before .before .before .before .before .halvings .given .1) (run .sine-at .ensures .result) (run .sine-at .ensures .only)
 
 pub sinm-in-spec : {M : Type 1} → statement M

@@ -2,7 +2,7 @@
 use borrow.Author.Needs.{needs}
 use lib.Ieee.{binary64}
 use borrow.Author.Tests.{eq-eqb, ne-eqb}
-use Rattle.arithmetic.proofs.ProductLaws.{+zero-bits}
+use Rattle.floats.proofs.Constants.{+zero-bits}
 use Rattle.questions.proofs.question.ask_nonnegative.Statement.{statement}
 use Rattle.questions.proofs.question.ask_nonnegative.Tie as tie
 

@@ -5,8 +5,8 @@ use mathlib.Core.List.{List}
 use lib.ListN.{length, set, length-set}
 use lib.Ieee.{Float, binary64}
 use Rattle.floats.specs.Float.{+zero}
+use Rattle.floats.proofs.Constants.{+zero-bits}
 use Rattle.arithmetic.specs.Matrix.{tab, at, item, put}
-use Rattle.arithmetic.proofs.ProductLaws.{+zero-bits}
 use Rattle.arithmetic.proofs.PartLaws.{put-none, put-store}
 use Rattle.roots.specs.Frechet.{addedWhere}
 use native.Mathlib.Omega.{arith}
