@@ -13,57 +13,42 @@ use Rattle.questions.proofs.OutputLaws.{output-refused, output-done}
 use Rattle.kronecker.proofs.kron.Statement.{statement}
 use Rattle.kronecker.proofs.kron.Tie as tie
 
-ask-kron-requires : tie.Need-ask-kron-requires
-ask-kron-requires c κs = search needs
-
-enum-known-why : tie.Need-enum-known-why
-enum-known-why c = search needs
-
-refused-requires : tie.Need-refused-requires
-refused-requires c κs = search needs
-
-enum-told : tie.Need-enum-told
-enum-told c = search needs
-
 kron-into-requires : tie.Need-kron-into-requires
 kron-into-requires c κs =
-    let a = c .before .before .before .before .before .before .before .args in
-    let asked = c .before .before .before .ask-kron in
-    let f = kron-fitting (a .m) (a .n) (now (a .a)) (a .p) (a .q) (now (a .b)) (length (now (a .out))) (asked .result) (c .before .enum-told .given .1) (asked .ensures) in
+    let (told, ask-kron, s) : tie.After-enum-told × tie.After-ask-kron × tie.Start = search in
+    let a = s .args in
+    let asked = ask-kron .ask-kron in
+    let f = kron-fitting (a .m) (a .n) (now (a .a)) (a .p) (a .q) (now (a .b)) (length (now (a .out))) (asked .result) (told .enum-told .given .1) (asked .ensures) in
     omega arith
-
-done-requires : tie.Need-done-requires
-done-requires c κs = search needs
 
 returns : tie.Need-returns
 unfolding kron
 returns c =
-    let a = c .before .before .before .before .before .before .before .before .args in
-    let asked = c .before .before .before .before .ask-kron in
-    output-refused ofKron (call (a .m) (a .n) (now (a .a)) (a .p) (a .q) (now (a .b)) (length (now (a .out)))) (asked .result) (asked .ensures) (c .refused .result .outcome) (now (a .out))
-    (done 0 (kronM binary64 (a .m) (a .n) (now (a .a)) (a .p) (a .q) (now (a .b)))) _ (c .before .before .why .given .1) (c .refused .ensures)
-
-same-length : tie.Need-same-length
-same-length c = search needs
+    let (refused, why, ask-kron, s) : tie.After-refused × tie.After-why × tie.After-ask-kron × tie.Start = search in
+    let a = s .args in
+    let asked = ask-kron .ask-kron in
+    output-refused ofKron (call (a .m) (a .n) (now (a .a)) (a .p) (a .q) (now (a .b)) (length (now (a .out)))) (asked .result) (asked .ensures) (refused .refused .result .outcome) (now (a .out))
+    (done 0 (kronM binary64 (a .m) (a .n) (now (a .a)) (a .p) (a .q) (now (a .b)))) _ (why .why .given .1) (refused .refused .ensures)
 
 returns-2 : tie.Need-returns-2
 unfolding kron
 returns-2 c =
-    let a = c .before .before .before .before .before .before .before .before .before .before .before .args in
-    let asked = c .before .before .before .before .before .before .before .ask-kron in
-    output-done ofKron (call (a .m) (a .n) (now (a .a)) (a .p) (a .q) (now (a .b)) (length (now (a .out)))) (asked .result) (asked .ensures) (c .done .result .outcome) (now (a .out))
-    0 (kronM binary64 (a .m) (a .n) (now (a .a)) (a .p) (a .q) (now (a .b))) _ (c .before .before .before .before .before .enum-told .given .1) (c .done .ensures) (c .before .before .before .kron-into .ensures)
+    let (at-done, kron-into, told, ask-kron, s) : tie.After-done × tie.After-kron-into × tie.After-enum-told × tie.After-ask-kron × tie.Start = search in
+    let a = s .args in
+    let asked = ask-kron .ask-kron in
+    output-done ofKron (call (a .m) (a .n) (now (a .a)) (a .p) (a .q) (now (a .b)) (length (now (a .out)))) (asked .result) (asked .ensures) (at-done .done .result .outcome) (now (a .out))
+    0 (kronM binary64 (a .m) (a .n) (now (a .a)) (a .p) (a .q) (now (a .b))) _ (told .enum-told .given .1) (at-done .done .ensures) (kron-into .kron-into .ensures)
 
 pub kron-spec : {M : Type 1} → statement M
 kron-spec =
     tie.close
     (tie.spec
-    ask-kron-requires
-    enum-known-why
-    refused-requires
-    enum-told
+    (λ c κs. search needs)
+    (λ c. search needs)
+    (λ c κs. search needs)
+    (λ c. search needs)
     kron-into-requires
-    done-requires
+    (λ c κs. search needs)
     returns
-    same-length
+    (λ c. search needs)
     returns-2)

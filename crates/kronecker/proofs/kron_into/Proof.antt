@@ -16,12 +16,10 @@ Inv-loop m n a p q b out₀ size y₀ i₀ out y i = (i ≤ m) × Filled out₀ 
 abbrev μ-loop : tie.MeasureT-loop
 μ-loop m n a p q b out₀ size y₀ i₀ out y i = m - i
 
-mul-size : tie.Need-mul-size Inv-loop μ-loop
-mul-size c = omega arith
-
 mul-size-2 : tie.Need-mul-size-2 Inv-loop μ-loop
 mul-size-2 c =
-    let pre = c .before .before .before .pre .0 in
+    let s : tie.Start Inv-loop μ-loop = search in
+    let pre = s .pre .0 in
     omega (arith, mul-le-mul (pre .2) (pre .5))
 
 loop-holds : tie.Need-loop-holds Inv-loop μ-loop
@@ -29,37 +27,31 @@ loop-holds c = (omega arith, rw zero-mul (filled-none _ _ _ _))
 
 kron-rows-requires : tie.Need-kron-rows-requires Inv-loop μ-loop
 kron-rows-requires c κs =
-    let at-loop = c .before .before in
-    let a = at-loop .before .before .before .before .args in
+    let at-loop : tie.At-loop Inv-loop μ-loop = search in
+    let s : tie.Start Inv-loop μ-loop = search in
+    let a = s .args in
     let less : at-loop .loop .i < a .m = omega arith in
     omega (arith, rows-end (at-loop .loop .i) (a .m) (a .p) (a .n * a .q) less, row-end (at-loop .loop .i) (a .m) (a .n) less)
 
 add-y : tie.Need-add-y Inv-loop μ-loop
 add-y c =
-    let at-loop = c .before .before .before .before .before in
-    let a = at-loop .before .before .before .before .args in
+    let at-loop : tie.At-loop Inv-loop μ-loop = search in
+    let s : tie.Start Inv-loop μ-loop = search in
+    let a = s .args in
     let less : at-loop .loop .i < a .m = omega arith in
     omega (arith, rows-end (at-loop .loop .i) (a .m) (a .p) (a .n * a .q) less)
 
-add-i : tie.Need-add-i Inv-loop μ-loop
-add-i c = omega arith
-
-loop-less : tie.Need-loop-less Inv-loop μ-loop
-loop-less c = omega arith
-
 loop-again : tie.Need-loop-again Inv-loop μ-loop
 loop-again c =
-    let at-loop = c .before .before .before .before .before in
-    let a = at-loop .before .before .before .before .args in
-    (omega arith, filled-blocks (kronEntry binary64 (a .n) (a .a .now) (a .q) (a .b .now)) (a .n) (a .p) (a .q) _ _ _ _ _ (at-loop .loop .inv .1) (c .before .before .kron-rows .ensures))
-
-same-length : tie.Need-same-length Inv-loop μ-loop
-same-length c = omega arith
+    let (kron-rows, at-loop, s) : tie.After-kron-rows Inv-loop μ-loop × tie.At-loop Inv-loop μ-loop × tie.Start Inv-loop μ-loop = search in
+    let a = s .args in
+    (omega arith, filled-blocks (kronEntry binary64 (a .n) (a .a .now) (a .q) (a .b .now)) (a .n) (a .p) (a .q) _ _ _ _ _ (at-loop .loop .inv .1) (kron-rows .kron-rows .ensures))
 
 returns : tie.Need-returns Inv-loop μ-loop
 returns c =
-    let l = c .before .loop in
-    let s = c .before .before .before .before .before in
+    let head : tie.At-loop Inv-loop μ-loop = search in
+    let s : tie.Start Inv-loop μ-loop = search in
+    let l = head .loop in
     let a = s .args in
     let e : l .i ≡ a .m = omega arith in
     filled-all (kronEntry binary64 (a .n) (a .a .now) (a .q) (a .b .now)) (a .n) (a .p) (a .q) (a .out .now) (a .m) _ _ (s .pre .1 .2) (rw e at (l .inv .1))
@@ -71,13 +63,13 @@ kron-into-spec =
     (tie.spec
     Inv-loop
     μ-loop
-    mul-size
+    (λ c. omega arith)
     mul-size-2
     loop-holds
     kron-rows-requires
     add-y
-    add-i
-    loop-less
+    (λ c. omega arith)
+    (λ c. omega arith)
     loop-again
-    same-length
+    (λ c. omega arith)
     returns)

@@ -16,55 +16,38 @@ Inv-loop out₀ y n a i q b k x z₀ j₀ out z j = (j ≤ n) × Filled out₀ y
 abbrev μ-loop : tie.MeasureT-loop
 μ-loop out₀ y n a i q b k x z₀ j₀ out z j = n - j
 
-mul-x : tie.Need-mul-x Inv-loop μ-loop
-mul-x c = omega arith
-
 loop-holds : tie.Need-loop-holds Inv-loop μ-loop
 loop-holds c = (omega arith, filled-none _ _ _ _)
 
-add-kron-part : tie.Need-add-kron-part Inv-loop μ-loop
-add-kron-part c = omega arith
-
-mul-kron-part : tie.Need-mul-kron-part Inv-loop μ-loop
-mul-kron-part c = omega arith
-
-shared-slice-read-kron-part : tie.Need-shared-slice-read-kron-part Inv-loop μ-loop
-shared-slice-read-kron-part c = omega arith
-
 kron-part-requires : tie.Need-kron-part-requires Inv-loop μ-loop
 kron-part-requires c κs =
-    let at-loop = c .before .before .before in
-    let a = at-loop .before .before .before .before .args in
+    let at-loop : tie.At-loop Inv-loop μ-loop = search in
+    let s : tie.Start Inv-loop μ-loop = search in
+    let a = s .args in
     let less : at-loop .loop .j < a .n = omega arith in
     omega (arith, row-end (at-loop .loop .j) (a .n) (a .q) less)
 
 add-z : tie.Need-add-z Inv-loop μ-loop
 add-z c =
-    let at-loop = c .before .before .before .before .before .before in
-    let a = at-loop .before .before .before .before .args in
+    let at-loop : tie.At-loop Inv-loop μ-loop = search in
+    let s : tie.Start Inv-loop μ-loop = search in
+    let a = s .args in
     let less : at-loop .loop .j < a .n = omega arith in
     omega (arith, row-end (at-loop .loop .j) (a .n) (a .q) less)
-
-add-j : tie.Need-add-j Inv-loop μ-loop
-add-j c = omega arith
-
-loop-less : tie.Need-loop-less Inv-loop μ-loop
-loop-less c = omega arith
 
 loop-again : tie.Need-loop-again Inv-loop μ-loop
 unfolding kronEntry at
 loop-again c =
-    let at-loop = c .before .before .before .before .before .before in
-    let a = at-loop .before .before .before .before .args in
-    (omega arith, filled-more _ _ _ _ (λ j. kronEntry binary64 (a .n) (a .a .now) (a .q) (a .b .now) (a .i) j (a .k)) _ _ _ (at-loop .loop .inv .1) (c .before .before .kron-part .ensures))
-
-same-length : tie.Need-same-length Inv-loop μ-loop
-same-length c = omega arith
+    let (kron-part, at-loop, s) : tie.After-kron-part Inv-loop μ-loop × tie.At-loop Inv-loop μ-loop × tie.Start Inv-loop μ-loop = search in
+    let a = s .args in
+    (omega arith, filled-more _ _ _ _ (λ j. kronEntry binary64 (a .n) (a .a .now) (a .q) (a .b .now) (a .i) j (a .k)) _ _ _ (at-loop .loop .inv .1) (kron-part .kron-part .ensures))
 
 returns : tie.Need-returns Inv-loop μ-loop
 returns c =
-    let l = c .before .loop in
-    let a = c .before .before .before .before .before .args in
+    let head : tie.At-loop Inv-loop μ-loop = search in
+    let s : tie.Start Inv-loop μ-loop = search in
+    let l = head .loop in
+    let a = s .args in
     let e : l .j ≡ a .n = omega arith in
     rw e at (l .inv .1 .list) ∙ ap (put (a .out .now) (a .y)) (row-parts (kronEntry binary64 (a .n) (a .a .now) (a .q) (a .b .now)) (a .n) (a .q) (a .i) (a .k))
 
@@ -74,15 +57,15 @@ kron-row-spec =
     (tie.spec
     Inv-loop
     μ-loop
-    mul-x
+    (λ c. omega arith)
     loop-holds
-    add-kron-part
-    mul-kron-part
-    shared-slice-read-kron-part
+    (λ c. omega arith)
+    (λ c. omega arith)
+    (λ c. omega arith)
     kron-part-requires
     add-z
-    add-j
-    loop-less
+    (λ c. omega arith)
+    (λ c. omega arith)
     loop-again
-    same-length
+    (λ c. omega arith)
     returns)

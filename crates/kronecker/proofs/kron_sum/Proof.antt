@@ -13,57 +13,43 @@ use Rattle.questions.proofs.OutputLaws.{output-refused, output-done}
 use Rattle.kronecker.proofs.kron_sum.Statement.{statement}
 use Rattle.kronecker.proofs.kron_sum.Tie as tie
 
-ask-kron-sum-requires : tie.Need-ask-kron-sum-requires
-ask-kron-sum-requires c κs = search needs
-
-enum-known-why : tie.Need-enum-known-why
-enum-known-why c = search needs
-
-refused-requires : tie.Need-refused-requires
-refused-requires c κs = search needs
-
-enum-told : tie.Need-enum-told
-enum-told c = search needs
-
 kron-sum-into-requires : tie.Need-kron-sum-into-requires
 kron-sum-into-requires c κs =
-    let a = c .before .before .before .before .before .before .before .args in
-    let asked = c .before .before .before .ask-kron-sum in
-    let f = kron-sum-fitting (a .m) (a .n) (now (a .a)) (a .p) (a .q) (now (a .b)) (length (now (a .out))) (asked .result) (c .before .enum-told .given .1) (asked .ensures) in
+    let (told, ask-kron-sum, s) : tie.After-enum-told × tie.After-ask-kron-sum × tie.Start = search in
+    let a = s .args in
+    let asked = ask-kron-sum .ask-kron-sum in
+    let f = kron-sum-fitting (a .m) (a .n) (now (a .a)) (a .p) (a .q) (now (a .b)) (length (now (a .out))) (asked .result) (told .enum-told .given .1) (asked .ensures) in
     omega arith
-
-done-requires : tie.Need-done-requires
-done-requires c κs = search needs
 
 returns : tie.Need-returns
 unfolding kronSum
 returns c =
-    let a = c .before .before .before .before .before .before .before .before .args in
-    let asked = c .before .before .before .before .ask-kron-sum in
-    output-refused ofKronSum (call (a .m) (a .n) (now (a .a)) (a .p) (a .q) (now (a .b)) (length (now (a .out)))) (asked .result) (asked .ensures) (c .refused .result .outcome) (now (a .out))
-    (done 0 (kronSumM binary64 (a .m) (now (a .a)) (a .p) (now (a .b)))) _ (c .before .before .why .given .1) (c .refused .ensures)
-
-same-length : tie.Need-same-length
-same-length c = search needs
+    let (refused, why, ask-kron-sum, s) : tie.After-refused × tie.After-why × tie.After-ask-kron-sum × tie.Start = search in
+    let a = s .args in
+    let asked = ask-kron-sum .ask-kron-sum in
+    output-refused ofKronSum (call (a .m) (a .n) (now (a .a)) (a .p) (a .q) (now (a .b)) (length (now (a .out)))) (asked .result) (asked .ensures) (refused .refused .result .outcome) (now (a .out))
+    (done 0 (kronSumM binary64 (a .m) (now (a .a)) (a .p) (now (a .b)))) _ (why .why .given .1) (refused .refused .ensures)
 
 returns-2 : tie.Need-returns-2
 unfolding kronSum
 returns-2 c =
-    let a = c .before .before .before .before .before .before .before .before .before .before .before .args in
-    let asked = c .before .before .before .before .before .before .before .ask-kron-sum in
-    output-done ofKronSum (call (a .m) (a .n) (now (a .a)) (a .p) (a .q) (now (a .b)) (length (now (a .out)))) (asked .result) (asked .ensures) (c .done .result .outcome) (now (a .out))
-    0 (kronSumM binary64 (a .m) (now (a .a)) (a .p) (now (a .b))) _ (c .before .before .before .before .before .enum-told .given .1) (c .done .ensures) (c .before .before .before .kron-sum-into .ensures)
+    let (at-done, kron-sum-into, told, ask-kron-sum, s) :
+    tie.After-done × tie.After-kron-sum-into × tie.After-enum-told × tie.After-ask-kron-sum × tie.Start = search in
+    let a = s .args in
+    let asked = ask-kron-sum .ask-kron-sum in
+    output-done ofKronSum (call (a .m) (a .n) (now (a .a)) (a .p) (a .q) (now (a .b)) (length (now (a .out)))) (asked .result) (asked .ensures) (at-done .done .result .outcome) (now (a .out))
+    0 (kronSumM binary64 (a .m) (now (a .a)) (a .p) (now (a .b))) _ (told .enum-told .given .1) (at-done .done .ensures) (kron-sum-into .kron-sum-into .ensures)
 
 pub kron-sum-spec : {M : Type 1} → statement M
 kron-sum-spec =
     tie.close
     (tie.spec
-    ask-kron-sum-requires
-    enum-known-why
-    refused-requires
-    enum-told
+    (λ c κs. search needs)
+    (λ c. search needs)
+    (λ c κs. search needs)
+    (λ c. search needs)
     kron-sum-into-requires
-    done-requires
+    (λ c κs. search needs)
     returns
-    same-length
+    (λ c. search needs)
     returns-2)

@@ -19,52 +19,23 @@ Inv-loop out₀ y s d p b k x l₀ out l = (l ≤ p) × (length out ≡ length o
 abbrev μ-loop : tie.MeasureT-loop
 μ-loop out₀ y s d p b k x l₀ out l = p - l
 
-mul-x : tie.Need-mul-x Inv-loop μ-loop
-mul-x c = omega arith
-
 loop-holds : tie.Need-loop-holds Inv-loop μ-loop
 loop-holds c = (omega arith, refl, put-none _ _ _)
-
-diagonal-entry-requires : tie.Need-diagonal-entry-requires Inv-loop μ-loop
-diagonal-entry-requires c κs = search needs
-
-add-out : tie.Need-add-out Inv-loop μ-loop
-add-out c = omega arith
-
-mul-out : tie.Need-mul-out Inv-loop μ-loop
-mul-out c = omega arith
-
-shared-slice-read-out : tie.Need-shared-slice-read-out Inv-loop μ-loop
-shared-slice-read-out c = omega arith
-
-add-out-2 : tie.Need-add-out-2 Inv-loop μ-loop
-add-out-2 c = omega arith
-
-mul-out-2 : tie.Need-mul-out-2 Inv-loop μ-loop
-mul-out-2 c = omega arith
-
-slice-write-out : tie.Need-slice-write-out Inv-loop μ-loop
-slice-write-out c = omega arith
-
-add-l : tie.Need-add-l Inv-loop μ-loop
-add-l c = omega arith
-
-loop-less : tie.Need-loop-less Inv-loop μ-loop
-loop-less c = omega arith
 
 loop-again : tie.Need-loop-again Inv-loop μ-loop
 unfolding at
 loop-again c =
-    let l = c .before .before .before .loop in
-    (omega arith, simp length-set (l .inv .1), rw (c .before .diagonal-entry .ensures, one-bits binary64, l .inv .2) (put-tab-more _ _ _ _))
-
-same-length : tie.Need-same-length Inv-loop μ-loop
-same-length c = omega arith
+    let diagonal-entry : tie.After-diagonal-entry Inv-loop μ-loop = search in
+    let head : tie.At-loop Inv-loop μ-loop = search in
+    let l = head .loop in
+    (omega arith, simp length-set (l .inv .1), rw (diagonal-entry .diagonal-entry .ensures, one-bits binary64, l .inv .2) (put-tab-more _ _ _ _))
 
 returns : tie.Need-returns Inv-loop μ-loop
 returns c =
-    let e : c .before .loop .l ≡ c .before .before .before .before .args .p = omega arith in
-    rw e at (c .before .loop .inv .2)
+    let head : tie.At-loop Inv-loop μ-loop = search in
+    let s : tie.Start Inv-loop μ-loop = search in
+    let e : head .loop .l ≡ s .args .p = omega arith in
+    rw e at (head .loop .inv .2)
 
 pub sum-part-spec : {M : Type 1} → statement M
 sum-part-spec =
@@ -72,17 +43,17 @@ sum-part-spec =
     (tie.spec
     Inv-loop
     μ-loop
-    mul-x
+    (λ c. omega arith)
     loop-holds
-    diagonal-entry-requires
-    add-out
-    mul-out
-    shared-slice-read-out
-    add-out-2
-    mul-out-2
-    slice-write-out
-    add-l
-    loop-less
+    (λ c κs. search needs)
+    (λ c. omega arith)
+    (λ c. omega arith)
+    (λ c. omega arith)
+    (λ c. omega arith)
+    (λ c. omega arith)
+    (λ c. omega arith)
+    (λ c. omega arith)
+    (λ c. omega arith)
     loop-again
-    same-length
+    (λ c. omega arith)
     returns)

@@ -15,44 +15,37 @@ Inv-loop out₀ y m a i p b width z₀ k₀ out z k = (k ≤ p) × Filled out₀
 abbrev μ-loop : tie.MeasureT-loop
 μ-loop out₀ y m a i p b width z₀ k₀ out z k = p - k
 
-mul-width : tie.Need-mul-width Inv-loop μ-loop
-mul-width c = omega arith
-
 loop-holds : tie.Need-loop-holds Inv-loop μ-loop
 loop-holds c = (omega arith, filled-none _ _ _ _)
 
 sum-row-requires : tie.Need-sum-row-requires Inv-loop μ-loop
 sum-row-requires c κs =
-    let at-loop = c .before .before in
-    let a = at-loop .before .before .before .before .args in
+    let at-loop : tie.At-loop Inv-loop μ-loop = search in
+    let s : tie.Start Inv-loop μ-loop = search in
+    let a = s .args in
     let less : at-loop .loop .k < a .p = omega arith in
     omega (arith, row-end (at-loop .loop .k) (a .p) (a .m * a .p) less, row-end (at-loop .loop .k) (a .p) (a .p) less)
 
 add-z : tie.Need-add-z Inv-loop μ-loop
 add-z c =
-    let at-loop = c .before .before .before .before .before in
-    let a = at-loop .before .before .before .before .args in
+    let at-loop : tie.At-loop Inv-loop μ-loop = search in
+    let s : tie.Start Inv-loop μ-loop = search in
+    let a = s .args in
     let less : at-loop .loop .k < a .p = omega arith in
     omega (arith, row-end (at-loop .loop .k) (a .p) (a .m * a .p) less)
 
-add-k : tie.Need-add-k Inv-loop μ-loop
-add-k c = omega arith
-
-loop-less : tie.Need-loop-less Inv-loop μ-loop
-loop-less c = omega arith
-
 loop-again : tie.Need-loop-again Inv-loop μ-loop
 loop-again c =
-    let at-loop = c .before .before .before .before .before in
-    (omega arith, filled-more _ _ _ _ _ _ _ _ (at-loop .loop .inv .1) (c .before .before .sum-row .ensures))
-
-same-length : tie.Need-same-length Inv-loop μ-loop
-same-length c = omega arith
+    let sum-row : tie.After-sum-row Inv-loop μ-loop = search in
+    let at-loop : tie.At-loop Inv-loop μ-loop = search in
+    (omega arith, filled-more _ _ _ _ _ _ _ _ (at-loop .loop .inv .1) (sum-row .sum-row .ensures))
 
 returns : tie.Need-returns Inv-loop μ-loop
 returns c =
-    let l = c .before .loop in
-    let e : l .k ≡ c .before .before .before .before .before .args .p = omega arith in
+    let head : tie.At-loop Inv-loop μ-loop = search in
+    let s : tie.Start Inv-loop μ-loop = search in
+    let l = head .loop in
+    let e : l .k ≡ s .args .p = omega arith in
     rw e at (l .inv .1 .list)
 
 pub sum-rows-spec : {M : Type 1} → statement M
@@ -61,12 +54,12 @@ sum-rows-spec =
     (tie.spec
     Inv-loop
     μ-loop
-    mul-width
+    (λ c. omega arith)
     loop-holds
     sum-row-requires
     add-z
-    add-k
-    loop-less
+    (λ c. omega arith)
+    (λ c. omega arith)
     loop-again
-    same-length
+    (λ c. omega arith)
     returns)

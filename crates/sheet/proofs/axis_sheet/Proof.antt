@@ -7,16 +7,16 @@ use Rattle.sheet.proofs.axis_sheet.Statement.{statement}
 use Rattle.sheet.proofs.axis_sheet.Tie as tie
 
 returns : tie.Need-returns
-returns c = let a = c .before .before .before .args in entered-short binary64 (now (a .sheet)) (now (a .out)) (c .if1 .taken)
-
-run-requires : tie.Need-run-requires
-run-requires c κs = search needs
-
-same-length : tie.Need-same-length
-same-length c = search needs
+returns c =
+    let taken1 : tie.Then1 = search in
+    let s : tie.Start = search in
+    let a = s .args in entered-short binary64 (now (a .sheet)) (now (a .out)) (taken1 .if1 .taken)
 
 returns-2 : tie.Need-returns-2
-returns-2 c = let a = c .before .before .before .before .before .before .before .args in entered binary64 (now (a .sheet)) (now (a .out)) _ _ (c .before .before .before .before .if1 .left) (c .before .before .run .ensures)
+returns-2 c =
+    let (run, left1, s) : tie.After-run × tie.Else1 × tie.Start = search in
+    let a = s .args in entered binary64 (now (a .sheet)) (now (a .out)) _ _ (left1 .if1 .left) (run .run .ensures)
 
 pub axis-sheet-spec : {M : Type 1} → statement M
-axis-sheet-spec = tie.close (tie.spec returns run-requires same-length returns-2)
+axis-sheet-spec =
+    tie.close (tie.spec returns (λ c κs. search needs) (λ c. search needs) returns-2)

@@ -20,36 +20,17 @@ abbrev μ-loop : tie.MeasureT-loop
 loop-holds : tie.Need-loop-holds Inv-loop μ-loop
 loop-holds c = (omega arith, refl, put-none _ _ _)
 
-mul-dst : tie.Need-mul-dst Inv-loop μ-loop
-mul-dst c = omega arith
-
-shared-slice-read-dst : tie.Need-shared-slice-read-dst Inv-loop μ-loop
-shared-slice-read-dst c = omega arith
-
-mul-dst-2 : tie.Need-mul-dst-2 Inv-loop μ-loop
-mul-dst-2 c = omega arith
-
-slice-write-dst : tie.Need-slice-write-dst Inv-loop μ-loop
-slice-write-dst c = omega arith
-
-add-k : tie.Need-add-k Inv-loop μ-loop
-add-k c = omega arith
-
-loop-less : tie.Need-loop-less Inv-loop μ-loop
-loop-less c = omega arith
-
 loop-again : tie.Need-loop-again Inv-loop μ-loop
 loop-again c =
-    let l = c .before .before .loop in
+    let head : tie.At-loop Inv-loop μ-loop = search in
+    let l = head .loop in
     (omega arith, simp length-set (l .inv .1), rw (l .inv .2) (put-store0 _ _ _ _ refl))
-
-same-length : tie.Need-same-length Inv-loop μ-loop
-same-length c = omega arith
 
 returns : tie.Need-returns Inv-loop μ-loop
 returns c =
-    let src = c .before .before .args .src .now in
-    rw (le-antisymm (c .before .loop .inv .0) (c .loop-test .left), tab-getD src nan) at (c .before .loop .inv .2) ∙ put-all _ src (c .before .before .pre)
+    let (end, head, s) : tie.After-loop Inv-loop μ-loop × tie.At-loop Inv-loop μ-loop × tie.Start Inv-loop μ-loop = search in
+    let src = s .args .src .now in
+    rw (le-antisymm (head .loop .inv .0) (end .loop-test .left), tab-getD src nan) at (head .loop .inv .2) ∙ put-all _ src (s .pre)
 
 pub copy-row-spec : {M : Type 1} → statement M
 copy-row-spec =
@@ -58,12 +39,12 @@ copy-row-spec =
     Inv-loop
     μ-loop
     loop-holds
-    mul-dst
-    shared-slice-read-dst
-    mul-dst-2
-    slice-write-dst
-    add-k
-    loop-less
+    (λ c. omega arith)
+    (λ c. omega arith)
+    (λ c. omega arith)
+    (λ c. omega arith)
+    (λ c. omega arith)
+    (λ c. omega arith)
     loop-again
-    same-length
+    (λ c. omega arith)
     returns)

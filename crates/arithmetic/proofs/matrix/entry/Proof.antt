@@ -12,16 +12,16 @@ within : (s : tie.Start) → s .args .i * s .args .c + s .args .j < s .args .r *
 within s = index-lt (s .pre .0) (s .pre .1)
 
 mul-result : tie.Need-mul-result
-mul-result c = omega (arith, within c)
+mul-result c = let s : tie.Start = search in omega (arith, within s)
 
 add-result : tie.Need-add-result
-add-result c = omega (arith, within c)
+add-result c = let s : tie.Start = search in omega (arith, within s)
 
 mul-result-2 : tie.Need-mul-result-2
-mul-result-2 c = omega (arith, within c)
+mul-result-2 c = let s : tie.Start = search in omega (arith, within s)
 
 shared-slice-read-result : tie.Need-shared-slice-read-result
-shared-slice-read-result c = omega (arith, within (c .before))
+shared-slice-read-result c = let s : tie.Start = search in omega (arith, within s)
 
 returns : tie.Need-returns
 unfolding at

@@ -36,74 +36,78 @@ abbrev μ-loop : tie.MeasureT-loop
 μ-loop w₀ o step src n x₀ y₀ i₀ w x y i = n - i
 
 loop-holds : tie.Need-loop-holds Inv-loop μ-loop
-loop-holds c = (omega arith, refl, sym (zero-mul _), omega (arith, zero-mul (c .before .before .args .step)), no-rows _ _ _ _ _)
+loop-holds c = let s : tie.Start Inv-loop μ-loop = search in (omega arith, refl, sym (zero-mul _), omega (arith, zero-mul (s .args .step)), no-rows _ _ _ _ _)
 
 -- in a turn the row of w and the row of src are within their slices
-fit : (c : tie.In-loop Inv-loop μ-loop) → let a = c .before .before .before .before .args in (c .before .loop .y + a .n ≤ length (a .w .now)) × (c .before .loop .x + a .n ≤ length (a .src .now))
+fit : (c : tie.In-loop Inv-loop μ-loop) →
+    let s : tie.Start Inv-loop μ-loop = search in
+    let a = s .args in (c .before .loop .y + a .n ≤ length (a .w .now)) × (c .before .loop .x + a .n ≤ length (a .src .now))
 fit c =
-    let s = c .before .before .before .before in
+    let s : tie.Start Inv-loop μ-loop = search in
     let i = c .before .loop .i in
     (omega (arith, s .pre .1 .0 i (c .loop-test .taken)), omega (arith, row-end i (s .args .n) (s .args .n) (c .loop-test .taken)))
 
 add-copy-row : tie.Need-add-copy-row Inv-loop μ-loop
-add-copy-row c = let f = fit c in omega arith
+add-copy-row c = let turn : tie.In-loop Inv-loop μ-loop = search in let f = fit turn in omega arith
 
 mul-copy-row : tie.Need-mul-copy-row Inv-loop μ-loop
-mul-copy-row c = let f = fit c in omega arith
+mul-copy-row c = let turn : tie.In-loop Inv-loop μ-loop = search in let f = fit turn in omega arith
 
 sub-copy-row : tie.Need-sub-copy-row Inv-loop μ-loop
-sub-copy-row c = let f = fit c in omega arith
+sub-copy-row c = let turn : tie.In-loop Inv-loop μ-loop = search in let f = fit turn in omega arith
 
 part-copy-row-start : tie.Need-part-copy-row-start Inv-loop μ-loop
-part-copy-row-start c = let f = fit c in omega arith
+part-copy-row-start c = let turn : tie.In-loop Inv-loop μ-loop = search in let f = fit turn in omega arith
 
 part-copy-row-end : tie.Need-part-copy-row-end Inv-loop μ-loop
-part-copy-row-end c = let f = fit c in omega arith
+part-copy-row-end c = let turn : tie.In-loop Inv-loop μ-loop = search in let f = fit turn in omega arith
 
 add-copy-row-2 : tie.Need-add-copy-row-2 Inv-loop μ-loop
-add-copy-row-2 c = let f = fit (c .before) in omega arith
+add-copy-row-2 c = let turn : tie.In-loop Inv-loop μ-loop = search in let f = fit turn in omega arith
 
 mul-copy-row-2 : tie.Need-mul-copy-row-2 Inv-loop μ-loop
-mul-copy-row-2 c = let f = fit (c .before) in omega arith
+mul-copy-row-2 c = let turn : tie.In-loop Inv-loop μ-loop = search in let f = fit turn in omega arith
 
 sub-copy-row-2 : tie.Need-sub-copy-row-2 Inv-loop μ-loop
-sub-copy-row-2 c = let f = fit (c .before) in omega arith
+sub-copy-row-2 c = let turn : tie.In-loop Inv-loop μ-loop = search in let f = fit turn in omega arith
 
 part-copy-row-start-2 : tie.Need-part-copy-row-start-2 Inv-loop μ-loop
-part-copy-row-start-2 c = let f = fit (c .before) in omega arith
+part-copy-row-start-2 c = let turn : tie.In-loop Inv-loop μ-loop = search in let f = fit turn in omega arith
 
 part-copy-row-end-2 : tie.Need-part-copy-row-end-2 Inv-loop μ-loop
-part-copy-row-end-2 c = let f = fit (c .before) in omega arith
+part-copy-row-end-2 c = let turn : tie.In-loop Inv-loop μ-loop = search in let f = fit turn in omega arith
 
 copy-row-requires : tie.Need-copy-row-requires Inv-loop μ-loop
 copy-row-requires c κs =
-    let f = fit (c .before .before) in
-    let l = c .before .before .before .loop in
-    let a = c .before .before .before .before .before .before .args in
+    let (turn, head, s) : tie.In-loop Inv-loop μ-loop × tie.At-loop Inv-loop μ-loop × tie.Start Inv-loop μ-loop = search in
+    let f = fit turn in
+    let l = head .loop in
+    let a = s .args in
     let hy : l .y + a .n ≤ length (l .w) = omega arith in
     ap length (lent (a .src .now) (l .x) (a .n) (f .1)) ∙ length-part (a .src .now) (l .x) (a .n) ∙ sym (ap length (lent (l .w) (l .y) (a .n) hy) ∙ length-part (l .w) (l .y) (a .n))
 
 add-x : tie.Need-add-x Inv-loop μ-loop
-add-x c = let f = fit (c .before .before .before .before .before) in omega arith
+add-x c = let turn : tie.In-loop Inv-loop μ-loop = search in let f = fit turn in omega arith
 
 add-y : tie.Need-add-y Inv-loop μ-loop
-add-y c = let f = fit (c .before .before .before .before .before) in omega arith
+add-y c = let turn : tie.In-loop Inv-loop μ-loop = search in let f = fit turn in omega arith
 
 add-i : tie.Need-add-i Inv-loop μ-loop
-add-i c = let f = fit (c .before .before .before .before .before) in omega arith
+add-i c = let turn : tie.In-loop Inv-loop μ-loop = search in let f = fit turn in omega arith
 
 loop-less : tie.Need-loop-less Inv-loop μ-loop
-loop-less c = let f = fit (c .before .before .before .before .before) in omega arith
+loop-less c = let turn : tie.In-loop Inv-loop μ-loop = search in let f = fit turn in omega arith
 
 loop-again : tie.Need-loop-again Inv-loop μ-loop
 loop-again c =
-    let in-loop = c .before .before .before .before .before in
-    let l = in-loop .before .loop in
-    let a = in-loop .before .before .before .before .args in
+    let (copy-row, in-loop, head, s) :
+    tie.After-copy-row Inv-loop μ-loop × tie.In-loop Inv-loop μ-loop × tie.At-loop Inv-loop μ-loop × tie.Start Inv-loop μ-loop = search in
+    let l = head .loop in
+    let a = s .args in
     let f = fit in-loop in
     let hy : l .y + a .n ≤ length (l .w) = omega arith in
-    let last = c .before .before .copy-row .last .0 in
-    let e = c .before .before .copy-row .ensures in (
+    let last = copy-row .copy-row .last .0 in
+    let e = copy-row .copy-row .ensures in (
       omega arith,
       length-step (l .w) (a .src .now) last (a .n) (l .x) (l .y) hy (f .1) e ∙ l .inv .1,
       omega (arith, more-rows (l .i) (a .n)),
@@ -111,11 +115,11 @@ loop-again c =
       row-step (a .w .now) (l .w) (a .src .now) last (a .o) (a .step) (l .i) (a .n) (l .x) (l .y) (l .inv .4) (l .inv .2) (l .inv .3) hy (f .1) e,
     )
 
-same-length : tie.Need-same-length Inv-loop μ-loop
-same-length c = omega arith
-
 returns : tie.Need-returns Inv-loop μ-loop
-returns c = rw (le-antisymm (c .before .loop .inv .0) (c .loop-test .left)) at (c .before .loop .inv .4)
+returns c =
+    let end : tie.After-loop Inv-loop μ-loop = search in
+    let head : tie.At-loop Inv-loop μ-loop = search in
+    rw (le-antisymm (head .loop .inv .0) (end .loop-test .left)) at (head .loop .inv .4)
 
 pub place-spec : {M : Type 1} → statement M
 place-spec =
@@ -140,5 +144,5 @@ place-spec =
     add-i
     loop-less
     loop-again
-    same-length
+    (λ c. omega arith)
     returns)

@@ -11,22 +11,17 @@ within : (s : tie.Start) → s .args .i * s .args .c + s .args .j < s .args .r *
 within s = index-lt (s .pre .0) (s .pre .1)
 
 mul-b : tie.Need-mul-b
-mul-b c = omega (arith, within c)
+mul-b c = let s : tie.Start = search in omega (arith, within s)
 
 add-b : tie.Need-add-b
-add-b c = omega (arith, within c)
+add-b c = let s : tie.Start = search in omega (arith, within s)
 
 mul-b-2 : tie.Need-mul-b-2
-mul-b-2 c = omega (arith, within c)
+mul-b-2 c = let s : tie.Start = search in omega (arith, within s)
 
 slice-write-b : tie.Need-slice-write-b
-slice-write-b c = omega (arith, within c)
-
-same-length : tie.Need-same-length
-same-length c = search needs
-
-returns : tie.Need-returns
-returns c = search needs
+slice-write-b c = let s : tie.Start = search in omega (arith, within s)
 
 pub set-entry-spec : {M : Type 1} → statement M
-set-entry-spec = tie.close (tie.spec mul-b add-b mul-b-2 slice-write-b same-length returns)
+set-entry-spec =
+    tie.close (tie.spec mul-b add-b mul-b-2 slice-write-b (λ c. search needs) (λ c. search needs))

@@ -18,47 +18,38 @@ Inv-loop w x j n sum₀ q₀ i₀ sum q i = (i ≤ n) × (q ≡ x + (i * n + j))
 abbrev μ-loop : tie.MeasureT-loop
 μ-loop w x j n sum₀ q₀ i₀ sum q i = n - i
 
-add-q : tie.Need-add-q Inv-loop μ-loop
-add-q c = omega arith
-
 loop-holds : tie.Need-loop-holds Inv-loop μ-loop
-loop-holds c = (omega arith, omega (arith, zero-mul (c .before .args .n)), magnitudes-none binary64 _)
+loop-holds c = let s : tie.Start Inv-loop μ-loop = search in (omega arith, omega (arith, zero-mul (s .args .n)), magnitudes-none binary64 _)
 
 -- in a turn q is within the matrix at x
-inside : (c : tie.In-loop Inv-loop μ-loop) → c .before .loop .i * c .before .before .before .args .n + c .before .before .before .args .j < c .before .before .before .args .n * c .before .before .before .args .n
+inside : (c : tie.In-loop Inv-loop μ-loop) →
+    let s : tie.Start Inv-loop μ-loop = search in
+    c .before .loop .i * s .args .n + s .args .j < s .args .n * s .args .n
 inside c = index-lt (c .loop-test .taken) (omega arith)
 
 mul-minus-identity-entry : tie.Need-mul-minus-identity-entry Inv-loop μ-loop
-mul-minus-identity-entry c = omega (arith, inside c)
+mul-minus-identity-entry c = let turn : tie.In-loop Inv-loop μ-loop = search in omega (arith, inside turn)
 
 shared-slice-read-minus-identity-entry : tie.Need-shared-slice-read-minus-identity-entry Inv-loop μ-loop
-shared-slice-read-minus-identity-entry c = omega (arith, inside (c .before))
-
-minus-identity-entry-requires : tie.Need-minus-identity-entry-requires Inv-loop μ-loop
-minus-identity-entry-requires c κs = tt
-
-magnitude-requires : tie.Need-magnitude-requires Inv-loop μ-loop
-magnitude-requires c κs = tt
+shared-slice-read-minus-identity-entry c = let turn : tie.In-loop Inv-loop μ-loop = search in omega (arith, inside turn)
 
 add-q-2 : tie.Need-add-q-2 Inv-loop μ-loop
-add-q-2 c = omega (arith, inside (c .before .before .before))
-
-add-i : tie.Need-add-i Inv-loop μ-loop
-add-i c = omega arith
-
-loop-less : tie.Need-loop-less Inv-loop μ-loop
-loop-less c = omega arith
+add-q-2 c = let turn : tie.In-loop Inv-loop μ-loop = search in omega (arith, inside turn)
 
 loop-again : tie.Need-loop-again Inv-loop μ-loop
 loop-again c =
-    let l = c .before .before .before .before .loop in
-    let a = c .before .before .before .before .before .before .args in
-    (omega arith, omega (arith, more-rows (l .i) (a .n)), rw (c .magnitude .ensures, c .before .minus-identity-entry .ensures, l .inv .1, l .inv .2, magnitudes-more))
+    let (magnitude, minus, head, s) :
+    tie.After-magnitude Inv-loop μ-loop × tie.After-minus-identity-entry Inv-loop μ-loop × tie.At-loop Inv-loop μ-loop × tie.Start Inv-loop μ-loop = search in
+    let l = head .loop in
+    let a = s .args in
+    (omega arith, omega (arith, more-rows (l .i) (a .n)), rw (magnitude .magnitude .ensures, minus .minus-identity-entry .ensures, l .inv .1, l .inv .2, magnitudes-more))
 
 returns : tie.Need-returns Inv-loop μ-loop
 returns c =
-    let e : c .before .loop .i ≡ c .before .before .before .args .n = omega arith in
-    rw e at (c .before .loop .inv .2)
+    let head : tie.At-loop Inv-loop μ-loop = search in
+    let s : tie.Start Inv-loop μ-loop = search in
+    let e : head .loop .i ≡ s .args .n = omega arith in
+    rw e at (head .loop .inv .2)
 
 pub column-sum-minus-identity-spec : {M : Type 1} → statement M
 column-sum-minus-identity-spec =
@@ -66,14 +57,14 @@ column-sum-minus-identity-spec =
     (tie.spec
     Inv-loop
     μ-loop
-    add-q
+    (λ c. omega arith)
     loop-holds
     mul-minus-identity-entry
     shared-slice-read-minus-identity-entry
-    minus-identity-entry-requires
-    magnitude-requires
+    (λ c κs. tt)
+    (λ c κs. tt)
     add-q-2
-    add-i
-    loop-less
+    (λ c. omega arith)
+    (λ c. omega arith)
     loop-again
     returns)

@@ -8,11 +8,11 @@ use Rattle.arithmetic.proofs.norm.minus_identity_entry.Tie as tie
 
 returns : tie.Need-returns
 unfolding minusIdentityEntry
-returns c = rw (one-bits binary64, eq-eqb _ _ (c .if1 .taken))
+returns c = let taken1 : tie.Then1 = search in rw (one-bits binary64, eq-eqb _ _ (taken1 .if1 .taken))
 
 returns-2 : tie.Need-returns-2
 unfolding minusIdentityEntry
-returns-2 c = rw (ne-eqb _ _ (c .if1 .left))
+returns-2 c = let left1 : tie.Else1 = search in rw (ne-eqb _ _ (left1 .if1 .left))
 
 pub minus-identity-entry-spec : {M : Type 1} → statement M
 minus-identity-entry-spec = tie.close (tie.spec returns returns-2)

@@ -19,35 +19,24 @@ Inv-loop w a n x max₀ j₀ max j = (x + n * n ≤ length w) × (j ≤ n) × (m
 abbrev μ-loop : tie.MeasureT-loop
 μ-loop w a n x max₀ j₀ max j = n - j
 
-mul-x : tie.Need-mul-x Inv-loop μ-loop
-mul-x c = omega arith
-
 loop-holds : tie.Need-loop-holds Inv-loop μ-loop
-loop-holds c = (omega (arith, square-le (c .before .args .n) (c .before .pre .0 .order)), omega arith, largest-none binary64 _)
-
-column-sum-minus-identity-requires : tie.Need-column-sum-minus-identity-requires Inv-loop μ-loop
-column-sum-minus-identity-requires c κs = omega arith
-
-larger-requires : tie.Need-larger-requires Inv-loop μ-loop
-larger-requires c κs = tt
-
-add-j : tie.Need-add-j Inv-loop μ-loop
-add-j c = omega arith
-
-loop-less : tie.Need-loop-less Inv-loop μ-loop
-loop-less c = omega arith
+loop-holds c = let s : tie.Start Inv-loop μ-loop = search in (omega (arith, square-le (s .args .n) (s .pre .0 .order)), omega arith, largest-none binary64 _)
 
 loop-again : tie.Need-loop-again Inv-loop μ-loop
 loop-again c =
-    let l = c .before .before .before .loop in
-    (l .inv .0, omega arith, rw (c .larger .ensures, c .before .column-sum-minus-identity .ensures, l .inv .2, largest-more))
+    let (larger, column, head) :
+    tie.After-larger Inv-loop μ-loop × tie.After-column-sum-minus-identity Inv-loop μ-loop × tie.At-loop Inv-loop μ-loop = search in
+    let l = head .loop in
+    (l .inv .0, omega arith, rw (larger .larger .ensures, column .column-sum-minus-identity .ensures, l .inv .2, largest-more))
 
 returns : tie.Need-returns Inv-loop μ-loop
 unfolding slot
 returns c =
-    let a = c .before .before .before .args in
-    let e : c .before .loop .j ≡ a .n = omega arith in
-    rw (norm1-minusIdentity binary64 (a .n) (a .w .now) (256 * a .a)) (rw e at (c .before .loop .inv .2))
+    let head : tie.At-loop Inv-loop μ-loop = search in
+    let s : tie.Start Inv-loop μ-loop = search in
+    let a = s .args in
+    let e : head .loop .j ≡ a .n = omega arith in
+    rw (norm1-minusIdentity binary64 (a .n) (a .w .now) (256 * a .a)) (rw e at (head .loop .inv .2))
 
 pub norm-1-minus-identity-spec : {M : Type 1} → statement M
 norm-1-minus-identity-spec =
@@ -55,11 +44,11 @@ norm-1-minus-identity-spec =
     (tie.spec
     Inv-loop
     μ-loop
-    mul-x
+    (λ c. omega arith)
     loop-holds
-    column-sum-minus-identity-requires
-    larger-requires
-    add-j
-    loop-less
+    (λ c κs. omega arith)
+    (λ c κs. tt)
+    (λ c. omega arith)
+    (λ c. omega arith)
     loop-again
     returns)

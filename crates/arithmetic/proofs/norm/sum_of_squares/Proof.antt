@@ -19,31 +19,19 @@ abbrev μ-loop : tie.MeasureT-loop
 loop-holds : tie.Need-loop-holds Inv-loop μ-loop
 loop-holds c = (omega arith, dot-none binary64 _ _)
 
-add-v : tie.Need-add-v Inv-loop μ-loop
-add-v c = omega arith
-
-mul-v : tie.Need-mul-v Inv-loop μ-loop
-mul-v c = omega arith
-
-shared-slice-read-v : tie.Need-shared-slice-read-v Inv-loop μ-loop
-shared-slice-read-v c = omega arith
-
-add-i : tie.Need-add-i Inv-loop μ-loop
-add-i c = omega arith
-
-loop-less : tie.Need-loop-less Inv-loop μ-loop
-loop-less c = omega arith
-
 loop-again : tie.Need-loop-again Inv-loop μ-loop
 loop-again c =
-    let l = c .before .before .loop in
+    let head : tie.At-loop Inv-loop μ-loop = search in
+    let l = head .loop in
     (omega arith, rw (l .inv .1, dot-more))
 
 returns : tie.Need-returns Inv-loop μ-loop
 returns c =
-    let a = c .before .before .args in
-    let e : c .before .loop .i ≡ a .k = omega arith in
-    rw (squares-part binary64 (a .k) (a .w .now) (a .x)) (rw e at (c .before .loop .inv .1))
+    let head : tie.At-loop Inv-loop μ-loop = search in
+    let s : tie.Start Inv-loop μ-loop = search in
+    let a = s .args in
+    let e : head .loop .i ≡ a .k = omega arith in
+    rw (squares-part binary64 (a .k) (a .w .now) (a .x)) (rw e at (head .loop .inv .1))
 
 pub sum-of-squares-spec : {M : Type 1} → statement M
 sum-of-squares-spec =
@@ -52,10 +40,10 @@ sum-of-squares-spec =
     Inv-loop
     μ-loop
     loop-holds
-    add-v
-    mul-v
-    shared-slice-read-v
-    add-i
-    loop-less
+    (λ c. omega arith)
+    (λ c. omega arith)
+    (λ c. omega arith)
+    (λ c. omega arith)
+    (λ c. omega arith)
     loop-again
     returns)

@@ -20,46 +20,42 @@ Inv-loop w a n sum₀ q₀ i₀ sum q i =
 abbrev μ-loop : tie.MeasureT-loop
 μ-loop w a n sum₀ q₀ i₀ sum q i = n - i
 
-mul-q : tie.Need-mul-q Inv-loop μ-loop
-mul-q c = omega arith
-
 loop-holds : tie.Need-loop-holds Inv-loop μ-loop
-loop-holds c = (omega arith, square-le (c .args .n) (c .pre .0 .order), omega (arith, zero-mul (c .args .n)), sum-none binary64 _)
+loop-holds c =
+    let s : tie.Start Inv-loop μ-loop = search in
+    (omega arith, square-le (s .args .n) (s .pre .0 .order), omega (arith, zero-mul (s .args .n)), sum-none binary64 _)
 
 -- in a turn q is within the matrix
-inside : (c : tie.In-loop Inv-loop μ-loop) → let n = c .before .before .args .n in c .before .loop .i * n + c .before .loop .i < n * n
+inside : (c : tie.In-loop Inv-loop μ-loop) →
+    let s : tie.Start Inv-loop μ-loop = search in
+    let n = s .args .n in c .before .loop .i * n + c .before .loop .i < n * n
 inside c = index-lt (c .loop-test .taken) (c .loop-test .taken)
 
 mul-sum : tie.Need-mul-sum Inv-loop μ-loop
-mul-sum c = omega (arith, inside c)
+mul-sum c = let turn : tie.In-loop Inv-loop μ-loop = search in omega (arith, inside turn)
 
 shared-slice-read-sum : tie.Need-shared-slice-read-sum Inv-loop μ-loop
-shared-slice-read-sum c = omega (arith, inside (c .before))
-
-add-q : tie.Need-add-q Inv-loop μ-loop
-add-q c = omega arith
+shared-slice-read-sum c = let turn : tie.In-loop Inv-loop μ-loop = search in omega (arith, inside turn)
 
 add-q-2 : tie.Need-add-q-2 Inv-loop μ-loop
-add-q-2 c = omega (arith, inside (c .before))
-
-add-i : tie.Need-add-i Inv-loop μ-loop
-add-i c = omega arith
-
-loop-less : tie.Need-loop-less Inv-loop μ-loop
-loop-less c = omega arith
+add-q-2 c = let turn : tie.In-loop Inv-loop μ-loop = search in omega (arith, inside turn)
 
 loop-again : tie.Need-loop-again Inv-loop μ-loop
 loop-again c =
-    let l = c .before .before .loop in
-    let a = c .before .before .before .args in
+    let head : tie.At-loop Inv-loop μ-loop = search in
+    let s : tie.Start Inv-loop μ-loop = search in
+    let l = head .loop in
+    let a = s .args in
     (omega arith, l .inv .1, omega (arith, more-rows (l .i) (a .n)), rw (l .inv .2, l .inv .3, sum-more))
 
 returns : tie.Need-returns Inv-loop μ-loop
 unfolding slot
 returns c =
-    let a = c .before .before .args in
-    let e : c .before .loop .i ≡ a .n = omega arith in
-    rw (trace-part binary64 (a .n) (a .w .now) (256 * a .a)) (rw e at (c .before .loop .inv .3))
+    let head : tie.At-loop Inv-loop μ-loop = search in
+    let s : tie.Start Inv-loop μ-loop = search in
+    let a = s .args in
+    let e : head .loop .i ≡ a .n = omega arith in
+    rw (trace-part binary64 (a .n) (a .w .now) (256 * a .a)) (rw e at (head .loop .inv .3))
 
 pub trace-spec : {M : Type 1} → statement M
 trace-spec =
@@ -67,13 +63,13 @@ trace-spec =
     (tie.spec
     Inv-loop
     μ-loop
-    mul-q
+    (λ c. omega arith)
     loop-holds
     mul-sum
     shared-slice-read-sum
-    add-q
+    (λ c. omega arith)
     add-q-2
-    add-i
-    loop-less
+    (λ c. omega arith)
+    (λ c. omega arith)
     loop-again
     returns)

@@ -20,62 +20,67 @@ abbrev μ-loop : tie.MeasureT-loop
 μ-loop w₀ a b c n x₀ y₀ i₀ w x y i = n - i
 
 loop-holds : tie.Need-loop-holds Inv-loop μ-loop
-loop-holds c = (omega arith, refl, omega (arith, zero-mul (c .before .args .n)), omega (arith, zero-mul (c .before .args .n)), put-no-row _ _ _ _)
+loop-holds c =
+    let s : tie.Start Inv-loop μ-loop = search in
+    (omega arith, refl, omega (arith, zero-mul (s .args .n)), omega (arith, zero-mul (s .args .n)), put-no-row _ _ _ _)
 
 -- in a turn row i lies within its matrix
-rows : (c : tie.In-loop Inv-loop μ-loop) → c .before .loop .i * c .before .before .before .args .n + c .before .before .before .args .n ≤ c .before .before .before .args .n * c .before .before .before .args .n
-rows c = row-end (c .before .loop .i) (c .before .before .before .args .n) (c .before .before .before .args .n) (c .loop-test .taken)
+rows : (c : tie.In-loop Inv-loop μ-loop) →
+    let s : tie.Start Inv-loop μ-loop = search in
+    c .before .loop .i * s .args .n + s .args .n ≤ s .args .n * s .args .n
+rows c = let s : tie.Start Inv-loop μ-loop = search in row-end (c .before .loop .i) (s .args .n) (s .args .n) (c .loop-test .taken)
 
 -- and is apart from what it is written to
-apart : (c : tie.In-loop Inv-loop μ-loop) → Apart (c .before .loop .x) (c .before .before .before .args .n) (c .before .loop .y) (c .before .before .before .args .n)
+apart : (c : tie.In-loop Inv-loop μ-loop) →
+    let s : tie.Start Inv-loop μ-loop = search in
+    Apart (c .before .loop .x) (s .args .n) (c .before .loop .y) (s .args .n)
 apart c =
+    let s : tie.Start Inv-loop μ-loop = search in
     let r = rows c in
-    apart-within _ _ _ _ _ _ _ _ (c .before .before .before .pre .1 .0) (omega arith) (omega arith) (omega arith) (omega arith)
+    apart-within _ _ _ _ _ _ _ _ (s .pre .1 .0) (omega arith) (omega arith) (omega arith) (omega arith)
 
-apart-b : (c : tie.In-loop Inv-loop μ-loop) → Apart (c .before .before .before .args .b) (c .before .before .before .args .n * c .before .before .before .args .n) (c .before .loop .y) (c .before .before .before .args .n)
+apart-b : (c : tie.In-loop Inv-loop μ-loop) →
+    let s : tie.Start Inv-loop μ-loop = search in
+    Apart (s .args .b) (s .args .n * s .args .n) (c .before .loop .y) (s .args .n)
 apart-b c =
+    let s : tie.Start Inv-loop μ-loop = search in
     let r = rows c in
-    apart-within _ _ _ _ _ _ _ _ (c .before .before .before .pre .1 .1) (omega arith) (omega arith) (omega arith) (omega arith)
+    apart-within _ _ _ _ _ _ _ _ (s .pre .1 .1) (omega arith) (omega arith) (omega arith) (omega arith)
 
 mult-row-requires : tie.Need-mult-row-requires Inv-loop μ-loop
 mult-row-requires c κs =
-    let r = rows (c .before) in
-    (omega arith, (apart (c .before), apart-b (c .before)))
+    let turn : tie.In-loop Inv-loop μ-loop = search in
+    let r = rows turn in
+    (omega arith, (apart turn, apart-b turn))
 
 add-x : tie.Need-add-x Inv-loop μ-loop
-add-x c = omega (arith, rows (c .before .before .before .before))
+add-x c = let turn : tie.In-loop Inv-loop μ-loop = search in omega (arith, rows turn)
 
 add-y : tie.Need-add-y Inv-loop μ-loop
-add-y c = omega (arith, rows (c .before .before .before .before))
-
-add-i : tie.Need-add-i Inv-loop μ-loop
-add-i c = omega arith
-
-loop-less : tie.Need-loop-less Inv-loop μ-loop
-loop-less c = omega arith
+add-y c = let turn : tie.In-loop Inv-loop μ-loop = search in omega (arith, rows turn)
 
 loop-again : tie.Need-loop-again Inv-loop μ-loop
 loop-again c =
-    let in-loop = c .before .before .before .before in
-    let l = in-loop .before .loop in
-    let a = in-loop .before .before .before .args in
-    let pre = in-loop .before .before .before .pre in
+    let (mult-row, in-loop, head, s) :
+    tie.After-mult-row Inv-loop μ-loop × tie.In-loop Inv-loop μ-loop × tie.At-loop Inv-loop μ-loop × tie.Start Inv-loop μ-loop = search in
+    let l = head .loop in
+    let a = s .args in
+    let pre = s .pre in
     let m = more-rows (l .i) (a .n) in (
       omega arith,
-      c .before .before .mult-row .kept .0 ∙ l .inv .1,
+      mult-row .mult-row .kept .0 ∙ l .inv .1,
       omega arith,
       omega arith,
-      rw (c .before .before .mult-row .ensures, l .inv .2, l .inv .3, l .inv .4) (mulM-row binary64 (a .n) (a .w .now) (a .a) (a .b) (a .c) (l .i) (in-loop .loop-test .taken) (pre .1 .0) (pre .1 .1)),
+      rw (mult-row .mult-row .ensures, l .inv .2, l .inv .3, l .inv .4) (mulM-row binary64 (a .n) (a .w .now) (a .a) (a .b) (a .c) (l .i) (in-loop .loop-test .taken) (pre .1 .0) (pre .1 .1)),
     )
-
-same-length : tie.Need-same-length Inv-loop μ-loop
-same-length c = omega arith
 
 returns : tie.Need-returns Inv-loop μ-loop
 returns c =
-    let e : c .before .loop .i ≡ c .before .before .before .args .n = omega arith in
-    let a = c .before .before .before .args in
-    rw (mulM-parts binary64 (a .n) (a .w .now) (a .a) (a .b)) (rw e at (c .before .loop .inv .4))
+    let head : tie.At-loop Inv-loop μ-loop = search in
+    let s : tie.Start Inv-loop μ-loop = search in
+    let e : head .loop .i ≡ s .args .n = omega arith in
+    let a = s .args in
+    rw (mulM-parts binary64 (a .n) (a .w .now) (a .a) (a .b)) (rw e at (head .loop .inv .4))
 
 pub mat-mult-spec : {M : Type 1} → statement M
 mat-mult-spec =
@@ -87,8 +92,8 @@ mat-mult-spec =
     mult-row-requires
     add-x
     add-y
-    add-i
-    loop-less
+    (λ c. omega arith)
+    (λ c. omega arith)
     loop-again
-    same-length
+    (λ c. omega arith)
     returns)

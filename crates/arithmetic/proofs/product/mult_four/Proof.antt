@@ -23,17 +23,23 @@ abbrev μ-loop : tie.MeasureT-loop
 μ-loop w x b y j n s0₀ s1₀ s2₀ s3₀ q₀ k₀ s0 s1 s2 s3 q k = n - k
 
 -- in a turn the places read of the columns lie within the matrix
-inside : (c : tie.In-loop Inv-loop μ-loop) → c .before .loop .q + 4 ≤ c .before .before .args .b + c .before .before .args .n * c .before .before .args .n
-inside c = omega (arith, row-end (c .before .loop .k) (c .before .before .args .n) (c .before .before .args .n) (c .loop-test .taken))
+inside : (c : tie.In-loop Inv-loop μ-loop) →
+    let s : tie.Start Inv-loop μ-loop = search in
+    c .before .loop .q + 4 ≤ s .args .b + s .args .n * s .args .n
+inside c = let s : tie.Start Inv-loop μ-loop = search in omega (arith, row-end (c .before .loop .k) (s .args .n) (s .args .n) (c .loop-test .taken))
 
 -- the answers that take more than arithmetic and `inside`; the others stand below, in the order of `tie.spec`
 loop-holds : tie.Need-loop-holds Inv-loop μ-loop
-loop-holds c = (omega arith, omega (arith, zero-mul (c .args .n)), dot-none binary64 _ _, dot-none binary64 _ _, dot-none binary64 _ _, dot-none binary64 _ _)
+loop-holds c =
+    let s : tie.Start Inv-loop μ-loop = search in
+    (omega arith, omega (arith, zero-mul (s .args .n)), dot-none binary64 _ _, dot-none binary64 _ _, dot-none binary64 _ _, dot-none binary64 _ _)
 
 loop-again : tie.Need-loop-again Inv-loop μ-loop
 loop-again c =
-    let l = c .before .before .before .before .before .before .loop in
-    let a = c .before .before .before .before .before .before .before .args in
+    let head : tie.At-loop Inv-loop μ-loop = search in
+    let s : tie.Start Inv-loop μ-loop = search in
+    let l = head .loop in
+    let a = s .args in
     let r = more-rows (l .k) (a .n) in (
       omega arith,
       omega arith,
@@ -45,8 +51,10 @@ loop-again c =
 
 returns : tie.Need-returns Inv-loop μ-loop
 returns c =
-    let l = c .before .loop in
-    let a = c .before .before .args in
+    let head : tie.At-loop Inv-loop μ-loop = search in
+    let s : tie.Start Inv-loop μ-loop = search in
+    let l = head .loop in
+    let a = s .args in
     let e : l .k ≡ a .n = omega arith in
     let d0 = dot-done binary64 _ _ _ _ _ (a .j + 0) _ e (l .inv .2) in
     let d1 = dot-done binary64 _ _ _ _ _ (a .j + 1) _ e (l .inv .3) in
@@ -65,18 +73,18 @@ mult-four-spec =
     (λ c. omega arith)
     (λ c. omega arith)
     (λ c. omega arith)
-    (λ c. omega (arith, inside (c .before)))
-    (λ c. omega (arith, inside (c .before .before)))
-    (λ c. omega (arith, inside (c .before .before)))
-    (λ c. omega (arith, inside (c .before .before)))
-    (λ c. omega (arith, inside (c .before .before .before)))
-    (λ c. omega (arith, inside (c .before .before .before)))
-    (λ c. omega (arith, inside (c .before .before .before)))
-    (λ c. omega (arith, inside (c .before .before .before .before)))
-    (λ c. omega (arith, inside (c .before .before .before .before)))
-    (λ c. omega (arith, inside (c .before .before .before .before)))
-    (λ c. omega (arith, inside (c .before .before .before .before .before)))
-    (λ c. omega (arith, inside (c .before .before .before .before .before)))
+    (λ c. let turn : tie.In-loop Inv-loop μ-loop = search in omega (arith, inside turn))
+    (λ c. let turn : tie.In-loop Inv-loop μ-loop = search in omega (arith, inside turn))
+    (λ c. let turn : tie.In-loop Inv-loop μ-loop = search in omega (arith, inside turn))
+    (λ c. let turn : tie.In-loop Inv-loop μ-loop = search in omega (arith, inside turn))
+    (λ c. let turn : tie.In-loop Inv-loop μ-loop = search in omega (arith, inside turn))
+    (λ c. let turn : tie.In-loop Inv-loop μ-loop = search in omega (arith, inside turn))
+    (λ c. let turn : tie.In-loop Inv-loop μ-loop = search in omega (arith, inside turn))
+    (λ c. let turn : tie.In-loop Inv-loop μ-loop = search in omega (arith, inside turn))
+    (λ c. let turn : tie.In-loop Inv-loop μ-loop = search in omega (arith, inside turn))
+    (λ c. let turn : tie.In-loop Inv-loop μ-loop = search in omega (arith, inside turn))
+    (λ c. let turn : tie.In-loop Inv-loop μ-loop = search in omega (arith, inside turn))
+    (λ c. let turn : tie.In-loop Inv-loop μ-loop = search in omega (arith, inside turn))
     (λ c. omega arith)
     (λ c. omega arith)
     loop-again

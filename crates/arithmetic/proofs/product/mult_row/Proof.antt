@@ -20,34 +20,24 @@ abbrev μ-loop : tie.MeasureT-loop
 loop-holds : tie.Need-loop-holds Inv-loop μ-loop
 loop-holds c = (omega arith, refl, put-none _ _ _)
 
-mult-next-requires : tie.Need-mult-next-requires Inv-loop μ-loop
-mult-next-requires c κs = omega arith
-
-add-j : tie.Need-add-j Inv-loop μ-loop
-add-j c = omega arith
-
-loop-less : tie.Need-loop-less Inv-loop μ-loop
-loop-less c = omega arith
-
 loop-again : tie.Need-loop-again Inv-loop μ-loop
 loop-again c =
-    let next = c .before .before .mult-next in
-    let at-loop = c .before .before .before .before .before in
+    let (mult-next, at-loop, s) : tie.After-mult-next Inv-loop μ-loop × tie.At-loop Inv-loop μ-loop × tie.Start Inv-loop μ-loop = search in
+    let next = mult-next .mult-next in
     let l = at-loop .loop in
-    let a = at-loop .before .before .args in
-    let pre = at-loop .before .before .pre in (
+    let a = s .args in
+    let pre = s .pre in (
       next .ensures .1,
       next .kept .0 ∙ l .inv .1,
       rw (next .ensures .2, l .inv .2) (rowDot-more binary64 (a .n) (a .w .now) (a .x) (a .b) (a .y) (l .j) (next .result) (next .ensures .1) (pre .1 .0) (pre .1 .1)),
     )
 
-same-length : tie.Need-same-length Inv-loop μ-loop
-same-length c = omega arith
-
 returns : tie.Need-returns Inv-loop μ-loop
 returns c =
-    let e : c .before .loop .j ≡ c .before .before .before .args .n = omega arith in
-    rw e at (c .before .loop .inv .2)
+    let head : tie.At-loop Inv-loop μ-loop = search in
+    let s : tie.Start Inv-loop μ-loop = search in
+    let e : head .loop .j ≡ s .args .n = omega arith in
+    rw e at (head .loop .inv .2)
 
 pub mult-row-spec : {M : Type 1} → statement M
 mult-row-spec =
@@ -56,9 +46,9 @@ mult-row-spec =
     Inv-loop
     μ-loop
     loop-holds
-    mult-next-requires
-    add-j
-    loop-less
+    (λ c κs. omega arith)
+    (λ c. omega arith)
+    (λ c. omega arith)
     loop-again
-    same-length
+    (λ c. omega arith)
     returns)

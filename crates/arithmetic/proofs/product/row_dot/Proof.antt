@@ -19,50 +19,38 @@ Inv-loop a x b y j n sum₀ q₀ k₀ sum q k =
 abbrev μ-loop : tie.MeasureT-loop
 μ-loop a x b y j n sum₀ q₀ k₀ sum q k = n - k
 
-add-q : tie.Need-add-q Inv-loop μ-loop
-add-q c = omega arith
-
 -- in a turn q is within the matrix at b
-inside : (c : tie.In-loop Inv-loop μ-loop) → c .before .loop .k * c .before .before .args .n + c .before .before .args .j < c .before .before .args .n * c .before .before .args .n
+inside : (c : tie.In-loop Inv-loop μ-loop) →
+    let s : tie.Start Inv-loop μ-loop = search in
+    c .before .loop .k * s .args .n + s .args .j < s .args .n * s .args .n
 inside c = index-lt (c .loop-test .taken) (omega arith)
 
 loop-holds : tie.Need-loop-holds Inv-loop μ-loop
-loop-holds c = (omega arith, omega (arith, zero-mul (c .args .n)), dot-none binary64 _ _)
-
-add-sum : tie.Need-add-sum Inv-loop μ-loop
-add-sum c = omega arith
-
-mul-sum : tie.Need-mul-sum Inv-loop μ-loop
-mul-sum c = omega arith
-
-shared-slice-read-sum : tie.Need-shared-slice-read-sum Inv-loop μ-loop
-shared-slice-read-sum c = omega arith
+loop-holds c = let s : tie.Start Inv-loop μ-loop = search in (omega arith, omega (arith, zero-mul (s .args .n)), dot-none binary64 _ _)
 
 mul-sum-2 : tie.Need-mul-sum-2 Inv-loop μ-loop
-mul-sum-2 c = omega (arith, inside (c .before))
+mul-sum-2 c = let turn : tie.In-loop Inv-loop μ-loop = search in omega (arith, inside turn)
 
 shared-slice-read-sum-2 : tie.Need-shared-slice-read-sum-2 Inv-loop μ-loop
-shared-slice-read-sum-2 c = omega (arith, inside (c .before .before))
+shared-slice-read-sum-2 c = let turn : tie.In-loop Inv-loop μ-loop = search in omega (arith, inside turn)
 
 add-q-2 : tie.Need-add-q-2 Inv-loop μ-loop
-add-q-2 c = omega (arith, inside (c .before .before))
-
-add-k : tie.Need-add-k Inv-loop μ-loop
-add-k c = omega arith
-
-loop-less : tie.Need-loop-less Inv-loop μ-loop
-loop-less c = omega arith
+add-q-2 c = let turn : tie.In-loop Inv-loop μ-loop = search in omega (arith, inside turn)
 
 loop-again : tie.Need-loop-again Inv-loop μ-loop
 loop-again c =
-    let l = c .before .before .before .loop in
-    (omega arith, omega (arith, more-rows (l .k) (c .before .before .before .before .args .n)), rw (l .inv .1, l .inv .2, dot-more))
+    let head : tie.At-loop Inv-loop μ-loop = search in
+    let s : tie.Start Inv-loop μ-loop = search in
+    let l = head .loop in
+    (omega arith, omega (arith, more-rows (l .k) (s .args .n)), rw (l .inv .1, l .inv .2, dot-more))
 
 returns : tie.Need-returns Inv-loop μ-loop
 unfolding rowDot
 returns c =
-    let e : c .before .loop .k ≡ c .before .before .args .n = omega arith in
-    rw e at (c .before .loop .inv .2)
+    let head : tie.At-loop Inv-loop μ-loop = search in
+    let s : tie.Start Inv-loop μ-loop = search in
+    let e : head .loop .k ≡ s .args .n = omega arith in
+    rw e at (head .loop .inv .2)
 
 pub row-dot-spec : {M : Type 1} → statement M
 row-dot-spec =
@@ -70,15 +58,15 @@ row-dot-spec =
     (tie.spec
     Inv-loop
     μ-loop
-    add-q
+    (λ c. omega arith)
     loop-holds
-    add-sum
-    mul-sum
-    shared-slice-read-sum
+    (λ c. omega arith)
+    (λ c. omega arith)
+    (λ c. omega arith)
     mul-sum-2
     shared-slice-read-sum-2
     add-q-2
-    add-k
-    loop-less
+    (λ c. omega arith)
+    (λ c. omega arith)
     loop-again
     returns)

@@ -22,29 +22,18 @@ abbrev μ-loop : tie.MeasureT-loop
 loop-holds : tie.Need-loop-holds Inv-loop μ-loop
 loop-holds c = (omega arith, refl, put-none _ _ _)
 
-mul-w : tie.Need-mul-w Inv-loop μ-loop
-mul-w c = omega arith
-
-slice-write-w : tie.Need-slice-write-w Inv-loop μ-loop
-slice-write-w c = omega arith
-
-add-k : tie.Need-add-k Inv-loop μ-loop
-add-k c = omega arith
-
-loop-less : tie.Need-loop-less Inv-loop μ-loop
-loop-less c = omega arith
-
 loop-again : tie.Need-loop-again Inv-loop μ-loop
 loop-again c =
-    let l = c .before .loop in
+    let head : tie.At-loop Inv-loop μ-loop = search in
+    let l = head .loop in
     (omega arith, simp length-set (l .inv .1), rw (l .inv .2) (put-store0 _ _ _ _ (+zero-bits binary64)))
-
-same-length : tie.Need-same-length Inv-loop μ-loop
-same-length c = omega arith
 
 returns : tie.Need-returns Inv-loop μ-loop
 unfolding cleared
-returns c = rw (le-antisymm (c .before .loop .inv .0) (c .loop-test .left)) at (c .before .loop .inv .2)
+returns c =
+    let end : tie.After-loop Inv-loop μ-loop = search in
+    let head : tie.At-loop Inv-loop μ-loop = search in
+    rw (le-antisymm (head .loop .inv .0) (end .loop-test .left)) at (head .loop .inv .2)
 
 pub clear-spec : {M : Type 1} → statement M
 clear-spec =
@@ -53,10 +42,10 @@ clear-spec =
     Inv-loop
     μ-loop
     loop-holds
-    mul-w
-    slice-write-w
-    add-k
-    loop-less
+    (λ c. omega arith)
+    (λ c. omega arith)
+    (λ c. omega arith)
+    (λ c. omega arith)
     loop-again
-    same-length
+    (λ c. omega arith)
     returns)

@@ -7,19 +7,18 @@ use borrow.Author.Needs.{needs}
 use Rattle.arithmetic.proofs.workspace.clear_where.Statement.{statement}
 use Rattle.arithmetic.proofs.workspace.clear_where.Tie as tie
 
-clear-requires : tie.Need-clear-requires
-clear-requires c κs = search needs
-
-same-length : tie.Need-same-length
-same-length c = search needs
-
 returns : tie.Need-returns
 returns c =
-    let w = now (c .before .before .before .before .before .before .args .w) in
-    c .before .before .clear .ensures ∙ sym (ap (λ (b : Bool). cond b (cleared w) w) (c .before .before .before .before .if1 .taken))
+    let (clear, taken1, s) : tie.After-clear × tie.Then1 × tie.Start = search in
+    let w = now (s .args .w) in
+    clear .clear .ensures ∙ sym (ap (λ (b : Bool). cond b (cleared w) w) (taken1 .if1 .taken))
 
 returns-2 : tie.Need-returns-2
-returns-2 c = let w = now (c .before .before .args .w) in sym (ap (λ (b : Bool). cond b (cleared w) w) (c .if1 .left))
+returns-2 c =
+    let left1 : tie.Else1 = search in
+    let s : tie.Start = search in
+    let w = now (s .args .w) in sym (ap (λ (b : Bool). cond b (cleared w) w) (left1 .if1 .left))
 
 pub clear-where-spec : {M : Type 1} → statement M
-clear-where-spec = tie.close (tie.spec clear-requires same-length returns returns-2)
+clear-where-spec =
+    tie.close (tie.spec (λ c κs. search needs) (λ c. search needs) returns returns-2)

@@ -18,41 +18,35 @@ Inv-loop w₀ a d n y₀ i₀ w y i = (256 * a + n * n ≤ length w₀) × (i �
 abbrev μ-loop : tie.MeasureT-loop
 μ-loop w₀ a d n y₀ i₀ w y i = n - i
 
-mul-y : tie.Need-mul-y Inv-loop μ-loop
-mul-y c = omega arith
-
 loop-holds : tie.Need-loop-holds Inv-loop μ-loop
-loop-holds c = (omega (arith, square-le (c .before .args .n) (c .before .pre .0 .order)), omega arith, refl, omega (arith, zero-mul (c .before .args .n)), put-no-row _ _ _ _)
+loop-holds c =
+    let s : tie.Start Inv-loop μ-loop = search in
+    (omega (arith, square-le (s .args .n) (s .pre .0 .order)), omega arith, refl, omega (arith, zero-mul (s .args .n)), put-no-row _ _ _ _)
 
 diagonal-row-requires : tie.Need-diagonal-row-requires Inv-loop μ-loop
-diagonal-row-requires c κs = omega (arith, row-end (c .before .before .loop .i) (c .before .before .before .before .args .n) (c .before .before .before .before .args .n) (c .before .loop-test .taken))
+diagonal-row-requires c κs =
+    let (turn, head, s) : tie.In-loop Inv-loop μ-loop × tie.At-loop Inv-loop μ-loop × tie.Start Inv-loop μ-loop = search in
+    omega (arith, row-end (head .loop .i) (s .args .n) (s .args .n) (turn .loop-test .taken))
 
 add-y : tie.Need-add-y Inv-loop μ-loop
 add-y c =
-    let in-loop = c .before .before .before .before in
-    omega (arith, row-end (in-loop .before .loop .i) (in-loop .before .before .before .args .n) (in-loop .before .before .before .args .n) (in-loop .loop-test .taken))
-
-add-i : tie.Need-add-i Inv-loop μ-loop
-add-i c = omega arith
-
-loop-less : tie.Need-loop-less Inv-loop μ-loop
-loop-less c = omega arith
+    let (in-loop, head, s) : tie.In-loop Inv-loop μ-loop × tie.At-loop Inv-loop μ-loop × tie.Start Inv-loop μ-loop = search in
+    omega (arith, row-end (head .loop .i) (s .args .n) (s .args .n) (in-loop .loop-test .taken))
 
 loop-again : tie.Need-loop-again Inv-loop μ-loop
 loop-again c =
-    let at-loop = c .before .before .before .before .before in
+    let (diagonal-row, at-loop, s) : tie.After-diagonal-row Inv-loop μ-loop × tie.At-loop Inv-loop μ-loop × tie.Start Inv-loop μ-loop = search in
     let l = at-loop .loop in
-    let a = at-loop .before .before .args in
-    (l .inv .0, omega arith, c .before .before .diagonal-row .kept .0 ∙ l .inv .2, omega (arith, more-rows (l .i) (a .n)), c .before .before .diagonal-row .ensures ∙ rw (l .inv .3, l .inv .4) (put-grid-more _ _ _ _ _))
-
-same-length : tie.Need-same-length Inv-loop μ-loop
-same-length c = omega arith
+    let a = s .args in
+    (l .inv .0, omega arith, diagonal-row .diagonal-row .kept .0 ∙ l .inv .2, omega (arith, more-rows (l .i) (a .n)), diagonal-row .diagonal-row .ensures ∙ rw (l .inv .3, l .inv .4) (put-grid-more _ _ _ _ _))
 
 returns : tie.Need-returns Inv-loop μ-loop
 unfolding store diagonalM
 returns c =
-    let e : c .before .loop .i ≡ c .before .before .before .args .n = omega arith in
-    rw e at (c .before .loop .inv .4)
+    let head : tie.At-loop Inv-loop μ-loop = search in
+    let s : tie.Start Inv-loop μ-loop = search in
+    let e : head .loop .i ≡ s .args .n = omega arith in
+    rw e at (head .loop .inv .4)
 
 pub diagonal-spec : {M : Type 1} → statement M
 diagonal-spec =
@@ -60,12 +54,12 @@ diagonal-spec =
     (tie.spec
     Inv-loop
     μ-loop
-    mul-y
+    (λ c. omega arith)
     loop-holds
     diagonal-row-requires
     add-y
-    add-i
-    loop-less
+    (λ c. omega arith)
+    (λ c. omega arith)
     loop-again
-    same-length
+    (λ c. omega arith)
     returns)

@@ -8,11 +8,11 @@ use Rattle.arithmetic.proofs.workspace.diagonal_entry.Tie as tie
 
 returns : tie.Need-returns
 unfolding diagonalEntry
-returns c = rw (eq-eqb _ _ (c .if1 .taken))
+returns c = let taken1 : tie.Then1 = search in rw (eq-eqb _ _ (taken1 .if1 .taken))
 
 returns-2 : tie.Need-returns-2
 unfolding diagonalEntry
-returns-2 c = rw (+zero-bits binary64, ne-eqb _ _ (c .if1 .left))
+returns-2 c = let left1 : tie.Else1 = search in rw (+zero-bits binary64, ne-eqb _ _ (left1 .if1 .left))
 
 pub diagonal-entry-spec : {M : Type 1} → statement M
 diagonal-entry-spec = tie.close (tie.spec returns returns-2)

@@ -19,68 +19,28 @@ Inv-loop w₀ c b h n x y m k₀ w k = (m ≤ 256) × (k ≤ m) × (length w ≡
 abbrev μ-loop : tie.MeasureT-loop
 μ-loop w₀ c b h n x y m k₀ w k = m - k
 
-mul-x : tie.Need-mul-x Inv-loop μ-loop
-mul-x c = omega arith
-
-mul-y : tie.Need-mul-y Inv-loop μ-loop
-mul-y c = omega arith
-
 mul-m : tie.Need-mul-m Inv-loop μ-loop
-mul-m c = omega (arith, square-le (c .args .n) (c .pre .0 .order))
+mul-m c = let s : tie.Start Inv-loop μ-loop = search in omega (arith, square-le (s .args .n) (s .pre .0 .order))
 
 loop-holds : tie.Need-loop-holds Inv-loop μ-loop
-loop-holds c = (square-le (c .args .n) (c .pre .0 .order), omega arith, refl, put-none _ _ _)
-
-add-w : tie.Need-add-w Inv-loop μ-loop
-add-w c = omega arith
-
-mul-w : tie.Need-mul-w Inv-loop μ-loop
-mul-w c = omega arith
-
-slice-read-w : tie.Need-slice-read-w Inv-loop μ-loop
-slice-read-w c = omega arith
-
-add-w-2 : tie.Need-add-w-2 Inv-loop μ-loop
-add-w-2 c = omega arith
-
-mul-w-2 : tie.Need-mul-w-2 Inv-loop μ-loop
-mul-w-2 c = omega arith
-
-slice-read-w-2 : tie.Need-slice-read-w-2 Inv-loop μ-loop
-slice-read-w-2 c = omega arith
-
-add-w-3 : tie.Need-add-w-3 Inv-loop μ-loop
-add-w-3 c = omega arith
-
-mul-w-3 : tie.Need-mul-w-3 Inv-loop μ-loop
-mul-w-3 c = omega arith
-
-slice-write-w : tie.Need-slice-write-w Inv-loop μ-loop
-slice-write-w c = omega arith
-
-add-k : tie.Need-add-k Inv-loop μ-loop
-add-k c = omega arith
-
-loop-less : tie.Need-loop-less Inv-loop μ-loop
-loop-less c = omega arith
+loop-holds c = let s : tie.Start Inv-loop μ-loop = search in (square-le (s .args .n) (s .pre .0 .order), omega arith, refl, put-none _ _ _)
 
 loop-again : tie.Need-loop-again Inv-loop μ-loop
 loop-again c =
-    let l = c .before .before .before .loop in
-    let s = c .before .before .before .before in
+    let (turn, head, s) : tie.In-loop Inv-loop μ-loop × tie.At-loop Inv-loop μ-loop × tie.Start Inv-loop μ-loop = search in
+    let l = head .loop in
     let a = s .args in
     let apart = slots-apart (a .b) (a .c) (a .n * a .n) (a .n * a .n) (s .pre .1 .2) (l .inv .0) (l .inv .0) in
-    (l .inv .0, omega arith, simp length-set (l .inv .2), rw (l .inv .3) (put-zip-more _ _ _ _ _ (λ (u v : Float). div binary64 (sub binary64 u v) (a .h)) apart (c .before .before .loop-test .taken)))
-
-same-length : tie.Need-same-length Inv-loop μ-loop
-same-length c = omega arith
+    (l .inv .0, omega arith, simp length-set (l .inv .2), rw (l .inv .3) (put-zip-more _ _ _ _ _ (λ (u v : Float). div binary64 (sub binary64 u v) (a .h)) apart (turn .loop-test .taken)))
 
 returns : tie.Need-returns Inv-loop μ-loop
 unfolding slot store
 returns c =
-    let a = c .before .before .args in
-    let e : c .before .loop .k ≡ a .n * a .n = omega arith in
-    rw (differenceQuotientM-parts binary64 (a .n) (a .h) (a .w .now) (256 * a .c) (256 * a .b)) (rw e at (c .before .loop .inv .3))
+    let head : tie.At-loop Inv-loop μ-loop = search in
+    let s : tie.Start Inv-loop μ-loop = search in
+    let a = s .args in
+    let e : head .loop .k ≡ a .n * a .n = omega arith in
+    rw (differenceQuotientM-parts binary64 (a .n) (a .h) (a .w .now) (256 * a .c) (256 * a .b)) (rw e at (head .loop .inv .3))
 
 pub difference-quotient-spec : {M : Type 1} → statement M
 difference-quotient-spec =
@@ -88,21 +48,21 @@ difference-quotient-spec =
     (tie.spec
     Inv-loop
     μ-loop
-    mul-x
-    mul-y
+    (λ c. omega arith)
+    (λ c. omega arith)
     mul-m
     loop-holds
-    add-w
-    mul-w
-    slice-read-w
-    add-w-2
-    mul-w-2
-    slice-read-w-2
-    add-w-3
-    mul-w-3
-    slice-write-w
-    add-k
-    loop-less
+    (λ c. omega arith)
+    (λ c. omega arith)
+    (λ c. omega arith)
+    (λ c. omega arith)
+    (λ c. omega arith)
+    (λ c. omega arith)
+    (λ c. omega arith)
+    (λ c. omega arith)
+    (λ c. omega arith)
+    (λ c. omega arith)
+    (λ c. omega arith)
     loop-again
-    same-length
+    (λ c. omega arith)
     returns)

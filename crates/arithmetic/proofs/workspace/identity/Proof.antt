@@ -6,15 +6,9 @@ use Rattle.arithmetic.specs.Product.{identityM}
 use Rattle.arithmetic.proofs.workspace.identity.Statement.{statement}
 use Rattle.arithmetic.proofs.workspace.identity.Tie as tie
 
-diagonal-requires : tie.Need-diagonal-requires
-diagonal-requires c κs = search needs
-
-same-length : tie.Need-same-length
-same-length c = search needs
-
 returns : tie.Need-returns
 unfolding identityM
-returns c = rw (one-bits binary64) at (c .before .before .diagonal .ensures)
+returns c = let diagonal : tie.After-diagonal = search in rw (one-bits binary64) at (diagonal .diagonal .ensures)
 
 pub identity-spec : {M : Type 1} → statement M
-identity-spec = tie.close (tie.spec diagonal-requires same-length returns)
+identity-spec = tie.close (tie.spec (λ c κs. search needs) (λ c. search needs) returns)

@@ -23,73 +23,30 @@ Inv-loop w₀ a b c n x z y m k₀ w k = (m ≤ 256) × (k ≤ m) × (length w �
 abbrev μ-loop : tie.MeasureT-loop
 μ-loop w₀ a b c n x z y m k₀ w k = m - k
 
-mul-x : tie.Need-mul-x Inv-loop μ-loop
-mul-x c = omega arith
-
-mul-z : tie.Need-mul-z Inv-loop μ-loop
-mul-z c = omega arith
-
-mul-y : tie.Need-mul-y Inv-loop μ-loop
-mul-y c = omega arith
-
 mul-m : tie.Need-mul-m Inv-loop μ-loop
-mul-m c = omega (arith, square-le (c .args .n) (c .pre .0 .order))
+mul-m c = let s : tie.Start Inv-loop μ-loop = search in omega (arith, square-le (s .args .n) (s .pre .0 .order))
 
 loop-holds : tie.Need-loop-holds Inv-loop μ-loop
-loop-holds c = (square-le (c .args .n) (c .pre .0 .order), omega arith, refl, put-none _ _ _)
-
-add-w : tie.Need-add-w Inv-loop μ-loop
-add-w c = omega arith
-
-mul-w : tie.Need-mul-w Inv-loop μ-loop
-mul-w c = omega arith
-
-slice-read-w : tie.Need-slice-read-w Inv-loop μ-loop
-slice-read-w c = omega arith
-
-add-w-2 : tie.Need-add-w-2 Inv-loop μ-loop
-add-w-2 c = omega arith
-
-mul-w-2 : tie.Need-mul-w-2 Inv-loop μ-loop
-mul-w-2 c = omega arith
-
-slice-read-w-2 : tie.Need-slice-read-w-2 Inv-loop μ-loop
-slice-read-w-2 c = omega arith
-
-add-w-3 : tie.Need-add-w-3 Inv-loop μ-loop
-add-w-3 c = omega arith
-
-mul-w-3 : tie.Need-mul-w-3 Inv-loop μ-loop
-mul-w-3 c = omega arith
-
-slice-write-w : tie.Need-slice-write-w Inv-loop μ-loop
-slice-write-w c = omega arith
-
-add-k : tie.Need-add-k Inv-loop μ-loop
-add-k c = omega arith
-
-loop-less : tie.Need-loop-less Inv-loop μ-loop
-loop-less c = omega arith
+loop-holds c = let s : tie.Start Inv-loop μ-loop = search in (square-le (s .args .n) (s .pre .0 .order), omega arith, refl, put-none _ _ _)
 
 loop-again : tie.Need-loop-again Inv-loop μ-loop
 loop-again c =
-    let l = c .before .before .before .loop in
-    let s = c .before .before .before .before in
+    let (turn, head, s) : tie.In-loop Inv-loop μ-loop × tie.At-loop Inv-loop μ-loop × tie.Start Inv-loop μ-loop = search in
+    let l = head .loop in
     let a = s .args in
     let F : ℕ → Float = λ i. mul binary64 (add binary64 (item (a .w .now) (256 * a .a + i)) (item (a .w .now) (256 * a .b + i))) half in
     let read : (p : ℕ) → eqb p (a .c) ≡ false → item (put (a .w .now) (256 * a .c) (tab (l .k) F)) (256 * p + l .k) ≡ item (a .w .now) (256 * p + l .k) =
-    λ p q. read-apart _ _ _ _ _ _ (slots-apart p (a .c) (a .n * a .n) (a .n * a .n) q (l .inv .0) (l .inv .0)) (c .before .before .loop-test .taken) in
+    λ p q. read-apart _ _ _ _ _ _ (slots-apart p (a .c) (a .n * a .n) (a .n * a .n) q (l .inv .0) (l .inv .0)) (turn .loop-test .taken) in
     (l .inv .0, omega arith, simp length-set (l .inv .2), rw (half-bits binary64, l .inv .3) (put-store _ _ _ F _ (λ i. mul binary64 (add binary64 (read (a .a) (s .pre .1 .3) i) (read (a .b) (s .pre .1 .4) i)) half)))
-
-same-length : tie.Need-same-length Inv-loop μ-loop
-same-length c = omega arith
 
 returns : tie.Need-returns Inv-loop μ-loop
 unfolding slot store
 returns c =
-    let a = c .before .before .args in
-    let e : c .before .loop .k ≡ a .n * a .n = omega arith in
-    rw (meanM-parts binary64 (a .n) (a .w .now) (256 * a .a) (256 * a .b)) (rw e at (c .before .loop .inv .3))
+    let head : tie.At-loop Inv-loop μ-loop = search in
+    let s : tie.Start Inv-loop μ-loop = search in
+    let a = s .args in
+    let e : head .loop .k ≡ a .n * a .n = omega arith in
+    rw (meanM-parts binary64 (a .n) (a .w .now) (256 * a .a) (256 * a .b)) (rw e at (head .loop .inv .3))
 
 pub mean-spec : {M : Type 1} → statement M
 mean-spec =
@@ -97,22 +54,22 @@ mean-spec =
     (tie.spec
     Inv-loop
     μ-loop
-    mul-x
-    mul-z
-    mul-y
+    (λ c. omega arith)
+    (λ c. omega arith)
+    (λ c. omega arith)
     mul-m
     loop-holds
-    add-w
-    mul-w
-    slice-read-w
-    add-w-2
-    mul-w-2
-    slice-read-w-2
-    add-w-3
-    mul-w-3
-    slice-write-w
-    add-k
-    loop-less
+    (λ c. omega arith)
+    (λ c. omega arith)
+    (λ c. omega arith)
+    (λ c. omega arith)
+    (λ c. omega arith)
+    (λ c. omega arith)
+    (λ c. omega arith)
+    (λ c. omega arith)
+    (λ c. omega arith)
+    (λ c. omega arith)
+    (λ c. omega arith)
     loop-again
-    same-length
+    (λ c. omega arith)
     returns)

@@ -26,61 +26,52 @@ Inv-loop w₀ a n q₀ i₀ w q i =
 abbrev μ-loop : tie.MeasureT-loop
 μ-loop w₀ a n q₀ i₀ w q i = n - i
 
-mul-q : tie.Need-mul-q Inv-loop μ-loop
-mul-q c = omega arith
-
 loop-holds : tie.Need-loop-holds Inv-loop μ-loop
-loop-holds c = (omega arith, square-le (c .args .n) (c .pre .0 .order), refl, omega (arith, zero-mul (c .args .n)), put-no-row _ _ _ _)
+loop-holds c =
+    let s : tie.Start Inv-loop μ-loop = search in
+    (omega arith, square-le (s .args .n) (s .pre .0 .order), refl, omega (arith, zero-mul (s .args .n)), put-no-row _ _ _ _)
 
 -- in a turn q is within the matrix
-inside : (c : tie.In-loop Inv-loop μ-loop) → let n = c .before .before .args .n in c .before .loop .i * n + c .before .loop .i < n * n
+inside : (c : tie.In-loop Inv-loop μ-loop) →
+    let s : tie.Start Inv-loop μ-loop = search in
+    let n = s .args .n in c .before .loop .i * n + c .before .loop .i < n * n
 inside c = index-lt (c .loop-test .taken) (c .loop-test .taken)
 
 mul-w : tie.Need-mul-w Inv-loop μ-loop
-mul-w c = omega (arith, inside c)
+mul-w c = let turn : tie.In-loop Inv-loop μ-loop = search in omega (arith, inside turn)
 
 slice-read-w : tie.Need-slice-read-w Inv-loop μ-loop
-slice-read-w c = omega (arith, inside (c .before))
+slice-read-w c = let turn : tie.In-loop Inv-loop μ-loop = search in omega (arith, inside turn)
 
 mul-w-2 : tie.Need-mul-w-2 Inv-loop μ-loop
-mul-w-2 c = omega (arith, inside (c .before))
+mul-w-2 c = let turn : tie.In-loop Inv-loop μ-loop = search in omega (arith, inside turn)
 
 slice-write-w : tie.Need-slice-write-w Inv-loop μ-loop
-slice-write-w c = omega (arith, inside (c .before))
-
-add-q : tie.Need-add-q Inv-loop μ-loop
-add-q c = omega arith
+slice-write-w c = let turn : tie.In-loop Inv-loop μ-loop = search in omega (arith, inside turn)
 
 add-q-2 : tie.Need-add-q-2 Inv-loop μ-loop
-add-q-2 c = omega (arith, inside (c .before))
-
-add-i : tie.Need-add-i Inv-loop μ-loop
-add-i c = omega arith
-
-loop-less : tie.Need-loop-less Inv-loop μ-loop
-loop-less c = omega arith
+add-q-2 c = let turn : tie.In-loop Inv-loop μ-loop = search in omega (arith, inside turn)
 
 loop-again : tie.Need-loop-again Inv-loop μ-loop
 loop-again c =
-    let l = c .before .before .loop in
-    let s = c .before .before .before in
+    let (turn, head, s) : tie.In-loop Inv-loop μ-loop × tie.At-loop Inv-loop μ-loop × tie.Start Inv-loop μ-loop = search in
+    let l = head .loop in
     let a = s .args in (
       omega arith,
       l .inv .1,
       simp length-set (l .inv .2),
       omega (arith, more-rows (l .i) (a .n)),
-      rw (one-bits binary64, l .inv .3, l .inv .4) (minusIdentity-row binary64 (a .n) (a .w .now) (256 * a .a) (l .i) (c .before .loop-test .taken) (omega arith)),
+      rw (one-bits binary64, l .inv .3, l .inv .4) (minusIdentity-row binary64 (a .n) (a .w .now) (256 * a .a) (l .i) (turn .loop-test .taken) (omega arith)),
     )
-
-same-length : tie.Need-same-length Inv-loop μ-loop
-same-length c = omega arith
 
 returns : tie.Need-returns Inv-loop μ-loop
 unfolding slot store
 returns c =
-    let a = c .before .before .args in
-    let e : c .before .loop .i ≡ a .n = omega arith in
-    rw (minusIdentityM-part binary64 (a .n) (a .w .now) (256 * a .a)) (rw e at (c .before .loop .inv .4))
+    let head : tie.At-loop Inv-loop μ-loop = search in
+    let s : tie.Start Inv-loop μ-loop = search in
+    let a = s .args in
+    let e : head .loop .i ≡ a .n = omega arith in
+    rw (minusIdentityM-part binary64 (a .n) (a .w .now) (256 * a .a)) (rw e at (head .loop .inv .4))
 
 pub minus-identity-spec : {M : Type 1} → statement M
 minus-identity-spec =
@@ -88,16 +79,16 @@ minus-identity-spec =
     (tie.spec
     Inv-loop
     μ-loop
-    mul-q
+    (λ c. omega arith)
     loop-holds
     mul-w
     slice-read-w
     mul-w-2
     slice-write-w
-    add-q
+    (λ c. omega arith)
     add-q-2
-    add-i
-    loop-less
+    (λ c. omega arith)
+    (λ c. omega arith)
     loop-again
-    same-length
+    (λ c. omega arith)
     returns)

@@ -19,38 +19,37 @@ loop-holds c = (omega arith, squared-none binary64 _ _ _ _)
 
 mult-requires : tie.Need-mult-requires Inv-loop μ-loop
 mult-requires c κs =
-    let pre = c .before .before .before .before .pre in
-    (room-kept (pre .0) (c .before .before .loop .inv .1 .only .long), (pre .1 .0, pre .1 .0, pre .1 .1, pre .1 .2, pre .1 .2))
+    let head : tie.At-loop Inv-loop μ-loop = search in
+    let s : tie.Start Inv-loop μ-loop = search in
+    let pre = s .pre in
+    (room-kept (pre .0) (head .loop .inv .1 .only .long), (pre .1 .0, pre .1 .0, pre .1 .1, pre .1 .2, pre .1 .2))
 
 copy-requires : tie.Need-copy-requires Inv-loop μ-loop
 copy-requires c κs =
-    let at-loop = c .before .before .before .before .before .before in
-    let pre = at-loop .before .before .pre in
-    (room-kept (pre .0) (c .before .before .before .mult .kept .0 ∙ at-loop .loop .inv .1 .only .long), (pre .1 .1, pre .1 .0, eqb-swap (at-loop .before .before .args .a) (at-loop .before .before .args .t) (pre .1 .2)))
-
-add-done : tie.Need-add-done Inv-loop μ-loop
-add-done c = omega arith
-
-loop-less : tie.Need-loop-less Inv-loop μ-loop
-loop-less c = omega arith
+    let (mult, at-loop, s) : tie.After-mult Inv-loop μ-loop × tie.At-loop Inv-loop μ-loop × tie.Start Inv-loop μ-loop = search in
+    let pre = s .pre in
+    (room-kept (pre .0) (mult .mult .kept .0 ∙ at-loop .loop .inv .1 .only .long), (pre .1 .1, pre .1 .0, eqb-swap (s .args .a) (s .args .t) (pre .1 .2)))
 
 loop-again : tie.Need-loop-again Inv-loop μ-loop
 loop-again c =
-    let mul = c .before .before .before .before .before .before .mult in
-    let at-loop = c .before .before .before .before .before .before .before .before .before in
-    let pre = at-loop .before .before .pre in (
+    let (copy, mult, at-loop, s) :
+    tie.After-copy Inv-loop μ-loop × tie.After-mult Inv-loop μ-loop × tie.At-loop Inv-loop μ-loop × tie.Start Inv-loop μ-loop = search in
+    let mul = mult .mult in
+    let pre = s .pre in (
       omega arith,
-      rw (c .before .before .copy .ensures, mul .ensures)
+      rw (copy .copy .ensures, mul .ensures)
           (squared-step _ _ _ _ _ _ _ (pre .0) (pre .1 .0) (pre .1 .1) (at-loop .loop .inv .1)),
     )
 
 same-length : tie.Need-same-length Inv-loop μ-loop
-same-length c = c .before .loop .inv .1 .only .long
+same-length c = let head : tie.At-loop Inv-loop μ-loop = search in head .loop .inv .1 .only .long
 
 returns : tie.Need-returns Inv-loop μ-loop
 returns c =
-    let e : c .before .loop .done ≡ c .before .before .before .args .s = omega arith in
-    rw e at (c .before .loop .inv .1)
+    let head : tie.At-loop Inv-loop μ-loop = search in
+    let s : tie.Start Inv-loop μ-loop = search in
+    let e : head .loop .done ≡ s .args .s = omega arith in
+    rw e at (head .loop .inv .1)
 
 pub square-spec : {M : Type 1} → statement M
 square-spec =
@@ -61,8 +60,8 @@ square-spec =
     loop-holds
     mult-requires
     copy-requires
-    add-done
-    loop-less
+    (λ c. omega arith)
+    (λ c. omega arith)
     loop-again
     same-length
     returns)

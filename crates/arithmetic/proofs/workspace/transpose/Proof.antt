@@ -19,61 +19,56 @@ Inv-loop w₀ a c n x y₀ i₀ w y i = (n * n ≤ 256) × (i ≤ n) × (length 
 abbrev μ-loop : tie.MeasureT-loop
 μ-loop w₀ a c n x y₀ i₀ w y i = n - i
 
-mul-x : tie.Need-mul-x Inv-loop μ-loop
-mul-x c = omega arith
-
-mul-y : tie.Need-mul-y Inv-loop μ-loop
-mul-y c = omega arith
-
 loop-holds : tie.Need-loop-holds Inv-loop μ-loop
-loop-holds c = (square-le (c .before .args .n) (c .before .pre .0 .order), omega arith, refl, omega (arith, zero-mul (c .before .args .n)), put-no-row _ _ _ _)
+loop-holds c =
+    let s : tie.Start Inv-loop μ-loop = search in
+    (square-le (s .args .n) (s .pre .0 .order), omega arith, refl, omega (arith, zero-mul (s .args .n)), put-no-row _ _ _ _)
 
 -- in a turn row i lies within its matrix
-rows : (c : tie.In-loop Inv-loop μ-loop) → let n = c .before .before .before .args .n in c .before .loop .i * n + n ≤ n * n
-rows c = let n = c .before .before .before .args .n in row-end (c .before .loop .i) n n (c .loop-test .taken)
+rows : (c : tie.In-loop Inv-loop μ-loop) →
+    let s : tie.Start Inv-loop μ-loop = search in
+    let n = s .args .n in c .before .loop .i * n + n ≤ n * n
+rows c = let s : tie.Start Inv-loop μ-loop = search in let n = s .args .n in row-end (c .before .loop .i) n n (c .loop-test .taken)
 
 -- the two matrices are apart
-apart : (c : tie.In-loop Inv-loop μ-loop) → let a = c .before .before .before .args in Apart (256 * a .a) (a .n * a .n) (256 * a .c) (a .n * a .n)
+apart : (c : tie.In-loop Inv-loop μ-loop) →
+    let s : tie.Start Inv-loop μ-loop = search in
+    let a = s .args in Apart (256 * a .a) (a .n * a .n) (256 * a .c) (a .n * a .n)
 apart c =
-    let s = c .before .before .before in
+    let s : tie.Start Inv-loop μ-loop = search in
     let small = c .before .loop .inv .0 in
     slots-apart (s .args .a) (s .args .c) _ _ (s .pre .1 .2) small small
 
 transpose-row-requires : tie.Need-transpose-row-requires Inv-loop μ-loop
 transpose-row-requires c κs =
-    let r = rows (c .before) in
-    (omega arith, apart-within _ _ _ _ _ _ _ _ (apart (c .before)) (omega arith) (omega arith) (omega arith) (omega arith))
+    let turn : tie.In-loop Inv-loop μ-loop = search in
+    let r = rows turn in
+    (omega arith, apart-within _ _ _ _ _ _ _ _ (apart turn) (omega arith) (omega arith) (omega arith) (omega arith))
 
 add-y : tie.Need-add-y Inv-loop μ-loop
-add-y c = omega (arith, rows (c .before .before .before .before))
-
-add-i : tie.Need-add-i Inv-loop μ-loop
-add-i c = omega arith
-
-loop-less : tie.Need-loop-less Inv-loop μ-loop
-loop-less c = omega arith
+add-y c = let turn : tie.In-loop Inv-loop μ-loop = search in omega (arith, rows turn)
 
 loop-again : tie.Need-loop-again Inv-loop μ-loop
 loop-again c =
-    let in-loop = c .before .before .before .before in
-    let l = in-loop .before .loop in
-    let a = in-loop .before .before .before .args in (
+    let (transpose-row, in-loop, head, s) :
+    tie.After-transpose-row Inv-loop μ-loop × tie.In-loop Inv-loop μ-loop × tie.At-loop Inv-loop μ-loop × tie.Start Inv-loop μ-loop = search in
+    let l = head .loop in
+    let a = s .args in (
       l .inv .0,
       omega arith,
-      c .before .before .transpose-row .kept .0 ∙ l .inv .2,
+      transpose-row .transpose-row .kept .0 ∙ l .inv .2,
       omega (arith, more-rows (l .i) (a .n)),
-      rw (c .before .before .transpose-row .ensures, l .inv .3, l .inv .4) (transposeM-row (a .n) (a .w .now) (256 * a .a) (256 * a .c) (l .i) (in-loop .loop-test .taken) (apart in-loop)),
+      rw (transpose-row .transpose-row .ensures, l .inv .3, l .inv .4) (transposeM-row (a .n) (a .w .now) (256 * a .a) (256 * a .c) (l .i) (in-loop .loop-test .taken) (apart in-loop)),
     )
-
-same-length : tie.Need-same-length Inv-loop μ-loop
-same-length c = omega arith
 
 returns : tie.Need-returns Inv-loop μ-loop
 unfolding slot store
 returns c =
-    let a = c .before .before .before .args in
-    let e : c .before .loop .i ≡ a .n = omega arith in
-    rw (transposeM-part (a .n) (a .w .now) (256 * a .a)) (rw e at (c .before .loop .inv .4))
+    let head : tie.At-loop Inv-loop μ-loop = search in
+    let s : tie.Start Inv-loop μ-loop = search in
+    let a = s .args in
+    let e : head .loop .i ≡ a .n = omega arith in
+    rw (transposeM-part (a .n) (a .w .now) (256 * a .a)) (rw e at (head .loop .inv .4))
 
 pub transpose-spec : {M : Type 1} → statement M
 transpose-spec =
@@ -81,13 +76,13 @@ transpose-spec =
     (tie.spec
     Inv-loop
     μ-loop
-    mul-x
-    mul-y
+    (λ c. omega arith)
+    (λ c. omega arith)
     loop-holds
     transpose-row-requires
     add-y
-    add-i
-    loop-less
+    (λ c. omega arith)
+    (λ c. omega arith)
     loop-again
-    same-length
+    (λ c. omega arith)
     returns)

@@ -17,56 +17,39 @@ Inv-loop w₀ x y i n q₀ j₀ w q j = (j ≤ n) × (length w ≡ length w₀) 
 abbrev μ-loop : tie.MeasureT-loop
 μ-loop w₀ x y i n q₀ j₀ w q j = n - j
 
-add-q : tie.Need-add-q Inv-loop μ-loop
-add-q c = omega arith
-
 loop-holds : tie.Need-loop-holds Inv-loop μ-loop
-loop-holds c = (omega arith, refl, omega (arith, zero-mul (c .args .n)), put-none _ _ _)
+loop-holds c = let s : tie.Start Inv-loop μ-loop = search in (omega arith, refl, omega (arith, zero-mul (s .args .n)), put-none _ _ _)
 
 -- in a turn q is within the matrix at x
-inside : (c : tie.In-loop Inv-loop μ-loop) → let a = c .before .before .args in c .before .loop .j * a .n + a .i < a .n * a .n
-inside c = index-lt (c .loop-test .taken) (c .before .before .pre .0 .1)
+inside : (c : tie.In-loop Inv-loop μ-loop) →
+    let s : tie.Start Inv-loop μ-loop = search in
+    let a = s .args in c .before .loop .j * a .n + a .i < a .n * a .n
+inside c = let s : tie.Start Inv-loop μ-loop = search in index-lt (c .loop-test .taken) (s .pre .0 .1)
 
 mul-w : tie.Need-mul-w Inv-loop μ-loop
-mul-w c = omega (arith, inside c)
+mul-w c = let turn : tie.In-loop Inv-loop μ-loop = search in omega (arith, inside turn)
 
 slice-read-w : tie.Need-slice-read-w Inv-loop μ-loop
-slice-read-w c = omega (arith, inside (c .before))
-
-add-w : tie.Need-add-w Inv-loop μ-loop
-add-w c = omega arith
-
-mul-w-2 : tie.Need-mul-w-2 Inv-loop μ-loop
-mul-w-2 c = omega arith
-
-slice-write-w : tie.Need-slice-write-w Inv-loop μ-loop
-slice-write-w c = omega arith
+slice-read-w c = let turn : tie.In-loop Inv-loop μ-loop = search in omega (arith, inside turn)
 
 add-q-2 : tie.Need-add-q-2 Inv-loop μ-loop
-add-q-2 c = omega (arith, inside (c .before))
-
-add-j : tie.Need-add-j Inv-loop μ-loop
-add-j c = omega arith
-
-loop-less : tie.Need-loop-less Inv-loop μ-loop
-loop-less c = omega arith
+add-q-2 c = let turn : tie.In-loop Inv-loop μ-loop = search in omega (arith, inside turn)
 
 loop-again : tie.Need-loop-again Inv-loop μ-loop
 loop-again c =
-    let l = c .before .before .loop in
-    let s = c .before .before .before in
+    let (turn, head, s) : tie.In-loop Inv-loop μ-loop × tie.At-loop Inv-loop μ-loop × tie.Start Inv-loop μ-loop = search in
+    let l = head .loop in
     let a = s .args in
     let F : ℕ → Float = λ k. item (a .w .now) (a .x + (k * a .n + a .i)) in
-    let read = getD-put-apart (a .w .now) (a .y) (a .n) (tab (l .j) F) (a .x) (a .n * a .n) (l .j * a .n + a .i) nan (s .pre .1) (omega (arith, length-tab (l .j) F)) (inside (c .before)) in
+    let read = getD-put-apart (a .w .now) (a .y) (a .n) (tab (l .j) F) (a .x) (a .n * a .n) (l .j * a .n + a .i) nan (s .pre .1) (omega (arith, length-tab (l .j) F)) (inside turn) in
     (omega arith, simp length-set (l .inv .1), omega (arith, more-rows (l .j) (a .n)), rw (l .inv .2, l .inv .3) (put-store _ _ _ F _ read))
-
-same-length : tie.Need-same-length Inv-loop μ-loop
-same-length c = omega arith
 
 returns : tie.Need-returns Inv-loop μ-loop
 returns c =
-    let e : c .before .loop .j ≡ c .before .before .args .n = omega arith in
-    rw e at (c .before .loop .inv .3)
+    let head : tie.At-loop Inv-loop μ-loop = search in
+    let s : tie.Start Inv-loop μ-loop = search in
+    let e : head .loop .j ≡ s .args .n = omega arith in
+    rw e at (head .loop .inv .3)
 
 pub transpose-row-spec : {M : Type 1} → statement M
 transpose-row-spec =
@@ -74,16 +57,16 @@ transpose-row-spec =
     (tie.spec
     Inv-loop
     μ-loop
-    add-q
+    (λ c. omega arith)
     loop-holds
     mul-w
     slice-read-w
-    add-w
-    mul-w-2
-    slice-write-w
+    (λ c. omega arith)
+    (λ c. omega arith)
+    (λ c. omega arith)
     add-q-2
-    add-j
-    loop-less
+    (λ c. omega arith)
+    (λ c. omega arith)
     loop-again
-    same-length
+    (λ c. omega arith)
     returns)

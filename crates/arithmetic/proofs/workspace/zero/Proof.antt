@@ -20,44 +20,26 @@ Inv-loop w₀ a n x m k₀ w k = (m ≤ 256) × (k ≤ m) × (length w ≡ lengt
 abbrev μ-loop : tie.MeasureT-loop
 μ-loop w₀ a n x m k₀ w k = m - k
 
-mul-x : tie.Need-mul-x Inv-loop μ-loop
-mul-x c = omega arith
-
 mul-m : tie.Need-mul-m Inv-loop μ-loop
-mul-m c = omega (arith, square-le (c .args .n) (c .pre .0 .order))
+mul-m c = let s : tie.Start Inv-loop μ-loop = search in omega (arith, square-le (s .args .n) (s .pre .0 .order))
 
 loop-holds : tie.Need-loop-holds Inv-loop μ-loop
-loop-holds c = (square-le (c .args .n) (c .pre .0 .order), omega arith, refl, put-none _ _ _)
-
-add-w : tie.Need-add-w Inv-loop μ-loop
-add-w c = omega arith
-
-mul-w : tie.Need-mul-w Inv-loop μ-loop
-mul-w c = omega arith
-
-slice-write-w : tie.Need-slice-write-w Inv-loop μ-loop
-slice-write-w c = omega arith
-
-add-k : tie.Need-add-k Inv-loop μ-loop
-add-k c = omega arith
-
-loop-less : tie.Need-loop-less Inv-loop μ-loop
-loop-less c = omega arith
+loop-holds c = let s : tie.Start Inv-loop μ-loop = search in (square-le (s .args .n) (s .pre .0 .order), omega arith, refl, put-none _ _ _)
 
 loop-again : tie.Need-loop-again Inv-loop μ-loop
 loop-again c =
-    let l = c .before .loop in
+    let head : tie.At-loop Inv-loop μ-loop = search in
+    let l = head .loop in
     (l .inv .0, omega arith, simp length-set (l .inv .2), rw (l .inv .3) (put-store _ _ _ (λ i. +zero) _ (+zero-bits binary64)))
-
-same-length : tie.Need-same-length Inv-loop μ-loop
-same-length c = omega arith
 
 returns : tie.Need-returns Inv-loop μ-loop
 unfolding slot store zeroM
 returns c =
-    let a = c .before .before .args in
-    let e : c .before .loop .k ≡ a .n * a .n = omega arith in
-    rw e at (c .before .loop .inv .3)
+    let head : tie.At-loop Inv-loop μ-loop = search in
+    let s : tie.Start Inv-loop μ-loop = search in
+    let a = s .args in
+    let e : head .loop .k ≡ a .n * a .n = omega arith in
+    rw e at (head .loop .inv .3)
 
 pub zero-spec : {M : Type 1} → statement M
 zero-spec =
@@ -65,14 +47,14 @@ zero-spec =
     (tie.spec
     Inv-loop
     μ-loop
-    mul-x
+    (λ c. omega arith)
     mul-m
     loop-holds
-    add-w
-    mul-w
-    slice-write-w
-    add-k
-    loop-less
+    (λ c. omega arith)
+    (λ c. omega arith)
+    (λ c. omega arith)
+    (λ c. omega arith)
+    (λ c. omega arith)
     loop-again
-    same-length
+    (λ c. omega arith)
     returns)

@@ -8,28 +8,15 @@ use borrow.Author.Needs.{needs}
 use Rattle.encoding.proofs.line.put_done.Statement.{statement}
 use Rattle.encoding.proofs.line.put_done.Tie as tie
 
-put-head-requires : tie.Need-put-head-requires
-put-head-requires c κs = search needs
-
-put-numbers-requires : tie.Need-put-numbers-requires
-put-numbers-requires c κs = search needs
-
-put-numbers-requires-2 : tie.Need-put-numbers-requires-2
-put-numbers-requires-2 c κs = search needs
-
-put-byte-requires : tie.Need-put-byte-requires
-put-byte-requires c κs = search needs
-
-same-length : tie.Need-same-length
-same-length c = search needs
-
 returns : tie.Need-returns
 returns c =
-    let a = c .before .before .before .before .before .before .before .before .before .before .before .before .before .before .before .before .before .before .before .args in
-    let h = c .before .before .before .before .before .before .before .before .before .before .before .before .before .before .put-head .ensures in
-    let f = c .before .before .before .before .before .before .before .before .before .before .put-numbers .ensures in
-    let g = c .before .before .before .before .before .before .put-numbers2 .ensures in
-    let n = c .before .before .put-byte .ensures in
+    let (put-byte, put-numbers2, put-numbers, put-head, s) :
+    tie.After-put-byte × tie.After-put-numbers2 × tie.After-put-numbers × tie.After-put-head × tie.Start = search in
+    let a = s .args in
+    let h = put-head .put-head .ensures in
+    let f = put-numbers .put-numbers .ensures in
+    let g = put-numbers2 .put-numbers2 .ensures in
+    let n = put-byte .put-byte .ensures in
     record {
       wrote = rw (done-line binary64 (a .task) (a .halvings) (now (a .first)) (now (a .second))) (wrote-more (wrote-more (wrote-more (h .0) (f .0)) (g .0)) n);
       short = omega (arith, h .1, f .1, g .1, n .past);
@@ -39,9 +26,9 @@ pub put-done-spec : {M : Type 1} → statement M
 put-done-spec =
     tie.close
     (tie.spec
-    put-head-requires
-    put-numbers-requires
-    put-numbers-requires-2
-    put-byte-requires
-    same-length
+    (λ c κs. search needs)
+    (λ c κs. search needs)
+    (λ c κs. search needs)
+    (λ c κs. search needs)
+    (λ c. search needs)
     returns)

@@ -9,57 +9,58 @@ use Rattle.encoding.proofs.parse.parse_directions.Statement.{statement}
 use Rattle.encoding.proofs.parse.parse_directions.Tie as tie
 
 mul-size : tie.Need-mul-size
-mul-size c = let n = c .before .args .n in omega (arith, mul-le-mul {n₁ = n} {m₁ = n} {n₂ = 8} {m₂ = 8} (omega arith) (omega arith))
+mul-size c = let s : tie.Start = search in let n = s .args .n in omega (arith, mul-le-mul {n₁ = n} {m₁ = n} {n₂ = 8} {m₂ = 8} (omega arith) (omega arith))
 
 mul-size-2 : tie.Need-mul-size-2
-mul-size-2 c = let n = c .before .args .n in omega (arith, mul-le-mul {n₁ = n} {m₁ = n} {n₂ = 8} {m₂ = 8} (omega arith) (omega arith))
+mul-size-2 c = let s : tie.Start = search in let n = s .args .n in omega (arith, mul-le-mul {n₁ = n} {m₁ = n} {n₂ = 8} {m₂ = 8} (omega arith) (omega arith))
 
 section-requires : tie.Need-section-requires
-section-requires c κs = let n = c .before .args .n in omega (arith, mul-le-mul {n₁ = n} {m₁ = n} {n₂ = 8} {m₂ = 8} (omega arith) (omega arith))
-
-enum-known-d : tie.Need-enum-known-d
-enum-known-d c = search needs
-
-add-parse-exponents : tie.Need-add-parse-exponents
-add-parse-exponents c = search needs
+section-requires c κs =
+    let s : tie.Start = search in
+    let n = s .args .n in omega (arith, mul-le-mul {n₁ = n} {m₁ = n} {n₂ = 8} {m₂ = 8} (omega arith) (omega arith))
 
 mul-parse-exponents : tie.Need-mul-parse-exponents
 mul-parse-exponents c =
-    let v = c .before .d .given .0 .0 in
-    let h : v < 9 = rw (c .before .d .given .1) at (c .before .before .before .section .ensures .1) in
-    let n = c .before .before .before .before .before .args .n in
+    let (d, section, s) : tie.After-d × tie.After-section × tie.Start = search in
+    let v = d .d .given .0 .0 in
+    let h : v < 9 = rw (d .d .given .1) at (section .section .ensures .1) in
+    let n = s .args .n in
     let m = mul-le-mul {n₁ = n} {m₁ = n} {n₂ = 8} {m₂ = 8} (omega arith) (omega arith) in
     let q = mul-le-mul {n₁ = v} {m₁ = 8 * (n * n)} {n₂ = 8} {m₂ = 512} (omega arith) (omega (arith, m)) in
     omega (arith, q)
 
 add-parse-exponents-2 : tie.Need-add-parse-exponents-2
 add-parse-exponents-2 c =
-    let v = c .before .d .given .0 .0 in
-    let h : v < 9 = rw (c .before .d .given .1) at (c .before .before .before .section .ensures .1) in
-    let n = c .before .before .before .before .before .args .n in
+    let (d, section, s) : tie.After-d × tie.After-section × tie.Start = search in
+    let v = d .d .given .0 .0 in
+    let h : v < 9 = rw (d .d .given .1) at (section .section .ensures .1) in
+    let n = s .args .n in
     let m = mul-le-mul {n₁ = n} {m₁ = n} {n₂ = 8} {m₂ = 8} (omega arith) (omega arith) in
     let q = mul-le-mul {n₁ = v} {m₁ = 8 * (n * n)} {n₂ = 8} {m₂ = 512} (omega arith) (omega (arith, m)) in
     omega (arith, q)
 
 parse-exponents-requires : tie.Need-parse-exponents-requires
 parse-exponents-requires c κs =
-    let v = c .before .d .given .0 .0 in
-    let h : v < 9 = rw (c .before .d .given .1) at (c .before .before .before .section .ensures .1) in
-    let n = c .before .before .before .before .before .args .n in
+    let (d, section, s) : tie.After-d × tie.After-section × tie.Start = search in
+    let v = d .d .given .0 .0 in
+    let h : v < 9 = rw (d .d .given .1) at (section .section .ensures .1) in
+    let n = s .args .n in
     let m = mul-le-mul {n₁ = n} {m₁ = n} {n₂ = 8} {m₂ = 8} (omega arith) (omega arith) in
     let q = mul-le-mul {n₁ = v} {m₁ = 8 * (n * n)} {n₂ = 8} {m₂ = 512} (omega arith) (omega (arith, m)) in
     omega (arith, q)
 
-enum-known-k : tie.Need-enum-known-k
-enum-known-k c = search needs
-
 returns : tie.Need-returns
 unfolding parseDirections
-returns c = c .parse-exponents .ensures ∙ rw (← c .before .before .before .before .section .ensures .0, c .before .before .d .given .1)
+returns c =
+    let (parse-exponents, d, section) : tie.After-parse-exponents × tie.After-d × tie.After-section = search in
+    parse-exponents .parse-exponents .ensures ∙ rw (← section .section .ensures .0, d .d .given .1)
 
 returns-2 : tie.Need-returns-2
 unfolding parseDirections
-returns-2 c = rw (← c .before .before .before .section .ensures .0, c .before .k .given .1)
+returns-2 c =
+    let k : tie.After-k = search in
+    let section : tie.After-section = search in
+    rw (← section .section .ensures .0, k .k .given .1)
 
 pub parse-directions-spec : {M : Type 1} → statement M
 parse-directions-spec =
@@ -68,11 +69,11 @@ parse-directions-spec =
     mul-size
     mul-size-2
     section-requires
-    enum-known-d
-    add-parse-exponents
+    (λ c. search needs)
+    (λ c. search needs)
     mul-parse-exponents
     add-parse-exponents-2
     parse-exponents-requires
-    enum-known-k
+    (λ c. search needs)
     returns
     returns-2)

@@ -15,43 +15,28 @@ Inv-loop s q d e count at₀ k₀ at k = (k ≤ count) × (at + 2 * k ≡ q + 2 
 abbrev μ-loop : tie.MeasureT-loop
 μ-loop s q d e count at₀ k₀ at k = k
 
-loop-holds : tie.Need-loop-holds Inv-loop μ-loop
-loop-holds c = (omega arith, refl, refl)
-
-task-requires : tie.Need-task-requires Inv-loop μ-loop
-task-requires c κs = omega arith
-
-enum-told : tie.Need-enum-told Inv-loop μ-loop
-enum-told c = search needs
-
-enum-told-2 : tie.Need-enum-told-2 Inv-loop μ-loop
-enum-told-2 c = search needs
-
 returns : tie.Need-returns Inv-loop μ-loop
 returns c =
-    let l = c .before .before .before .before .loop in
-    let a = c .before .before .before .before .before .before .args in
-    sym (tasks-more (now (a .s)) (l .at) (a .d) (a .e) (l .k) (omega arith) ∙ rw (← c .before .before .task .ensures, c .enum-told2 .given .1)) ∙ l .inv .2
-
-add-at : tie.Need-add-at Inv-loop μ-loop
-add-at c = omega arith
-
-sub-k : tie.Need-sub-k Inv-loop μ-loop
-sub-k c = search needs
-
-loop-less : tie.Need-loop-less Inv-loop μ-loop
-loop-less c = search needs
+    let (told2, task, head, s) :
+    tie.After-enum-told2 Inv-loop μ-loop × tie.After-task Inv-loop μ-loop × tie.At-loop Inv-loop μ-loop × tie.Start Inv-loop μ-loop = search in
+    let l = head .loop in
+    let a = s .args in
+    sym (tasks-more (now (a .s)) (l .at) (a .d) (a .e) (l .k) (omega arith) ∙ rw (← task .task .ensures, told2 .enum-told2 .given .1)) ∙ l .inv .2
 
 loop-again : tie.Need-loop-again Inv-loop μ-loop
 loop-again c =
-    let l = c .before .before .before .before .loop in
-    let a = c .before .before .before .before .before .before .args in
-    (omega arith, omega arith, sym (tasks-more (now (a .s)) (l .at) (a .d) (a .e) (l .k) (omega arith) ∙ rw (← c .before .before .task .ensures, c .enum-told .given .1)) ∙ l .inv .2)
+    let (told, task, head, s) :
+    tie.After-enum-told Inv-loop μ-loop × tie.After-task Inv-loop μ-loop × tie.At-loop Inv-loop μ-loop × tie.Start Inv-loop μ-loop = search in
+    let l = head .loop in
+    let a = s .args in
+    (omega arith, omega arith, sym (tasks-more (now (a .s)) (l .at) (a .d) (a .e) (l .k) (omega arith) ∙ rw (← task .task .ensures, told .enum-told .given .1)) ∙ l .inv .2)
 
 returns-2 : tie.Need-returns-2 Inv-loop μ-loop
 returns-2 c =
-    let l = c .before .loop in
-    let a = c .before .before .before .args in
+    let head : tie.At-loop Inv-loop μ-loop = search in
+    let s : tie.Start Inv-loop μ-loop = search in
+    let l = head .loop in
+    let a = s .args in
     let z : l .k ≡ 0 = omega arith in
     sym (tasks-none (now (a .s)) (l .at) (a .d) (a .e)) ∙ (rw z at (l .inv .2))
 
@@ -61,13 +46,13 @@ tasks-spec =
     (tie.spec
     Inv-loop
     μ-loop
-    loop-holds
-    task-requires
-    enum-told
-    enum-told-2
+    (λ c. (omega arith, refl, refl))
+    (λ c κs. omega arith)
+    (λ c. search needs)
+    (λ c. search needs)
     returns
-    add-at
-    sub-k
-    loop-less
+    (λ c. omega arith)
+    (λ c. search needs)
+    (λ c. search needs)
     loop-again
     returns-2)

@@ -21,40 +21,19 @@ abbrev μ-loop : tie.MeasureT-loop
 loop-holds : tie.Need-loop-holds Inv-loop μ-loop
 loop-holds c = (omega arith, refl, put-none _ 0 _)
 
-mul-read-number : tie.Need-mul-read-number Inv-loop μ-loop
-mul-read-number c = search needs
-
-add-read-number : tie.Need-add-read-number Inv-loop μ-loop
-add-read-number c = search needs
-
-read-number-requires : tie.Need-read-number-requires Inv-loop μ-loop
-read-number-requires c κs = search needs
-
-mul-m : tie.Need-mul-m Inv-loop μ-loop
-mul-m c = search needs
-
-slice-write-m : tie.Need-slice-write-m Inv-loop μ-loop
-slice-write-m c = search needs
-
-add-i : tie.Need-add-i Inv-loop μ-loop
-add-i c = search needs
-
-loop-less : tie.Need-loop-less Inv-loop μ-loop
-loop-less c = omega arith
-
 loop-again : tie.Need-loop-again Inv-loop μ-loop
 loop-again c =
-    let l = c .before .before .loop in
-    let a = c .before .before .before .before .before .args in
-    (omega arith, simp length-set (l .inv .1), read-more binary64 (now (a .s)) (a .p) (now (a .m)) _ (l .i) _ (l .inv .2) (c .read-number .ensures))
-
-same-length : tie.Need-same-length Inv-loop μ-loop
-same-length c = omega arith
+    let (read-number, head, s) : tie.After-read-number Inv-loop μ-loop × tie.At-loop Inv-loop μ-loop × tie.Start Inv-loop μ-loop = search in
+    let l = head .loop in
+    let a = s .args in
+    (omega arith, simp length-set (l .inv .1), read-more binary64 (now (a .s)) (a .p) (now (a .m)) _ (l .i) _ (l .inv .2) (read-number .read-number .ensures))
 
 returns : tie.Need-returns Inv-loop μ-loop
 returns c =
-    let l = c .before .loop in
-    let a = c .before .before .before .before .args in
+    let head : tie.At-loop Inv-loop μ-loop = search in
+    let s : tie.Start Inv-loop μ-loop = search in
+    let l = head .loop in
+    let a = s .args in
     read-all binary64 (now (a .s)) (a .p) (now (a .m)) _ (l .i) (l .inv .2) (omega arith)
 
 pub read-numbers-spec : {M : Type 1} → statement M
@@ -64,13 +43,13 @@ read-numbers-spec =
     Inv-loop
     μ-loop
     loop-holds
-    mul-read-number
-    add-read-number
-    read-number-requires
-    mul-m
-    slice-write-m
-    add-i
-    loop-less
+    (λ c. search needs)
+    (λ c. search needs)
+    (λ c κs. search needs)
+    (λ c. search needs)
+    (λ c. search needs)
+    (λ c. search needs)
+    (λ c. omega arith)
     loop-again
-    same-length
+    (λ c. omega arith)
     returns)

@@ -16,34 +16,20 @@ Inv-loop text part₀ j₀ part j = (j ≤ length text) × (length part ≡ leng
 abbrev μ-loop : tie.MeasureT-loop
 μ-loop text part₀ j₀ part j = length text - j
 
-loop-holds : tie.Need-loop-holds Inv-loop μ-loop
-loop-holds c = search needs
-
-shared-slice-read-part : tie.Need-shared-slice-read-part Inv-loop μ-loop
-shared-slice-read-part c = search needs
-
-slice-write-part : tie.Need-slice-write-part Inv-loop μ-loop
-slice-write-part c = omega arith
-
-add-j : tie.Need-add-j Inv-loop μ-loop
-add-j c = search needs
-
-loop-less : tie.Need-loop-less Inv-loop μ-loop
-loop-less c = search needs
-
 loop-again : tie.Need-loop-again Inv-loop μ-loop
 loop-again c =
-    let l = c .before .before .loop in
-    let a = c .before .before .before .args in
+    let head : tie.At-loop Inv-loop μ-loop = search in
+    let s : tie.Start Inv-loop μ-loop = search in
+    let l = head .loop in
+    let a = s .args in
     (omega arith, simp length-set (l .inv .1), ap (λ (d : List ℕ). set d (l .j) (getD (now (a .text)) (l .j) 0)) (l .inv .2) ∙ copied-more (now (a .text)) (now (a .part)) (l .j) (omega arith) (omega arith))
-
-same-length : tie.Need-same-length Inv-loop μ-loop
-same-length c = search needs
 
 returns : tie.Need-returns Inv-loop μ-loop
 returns c =
-    let l = c .before .loop in
-    let a = c .before .before .args in
+    let head : tie.At-loop Inv-loop μ-loop = search in
+    let s : tie.Start Inv-loop μ-loop = search in
+    let l = head .loop in
+    let a = s .args in
     l .inv .2 ∙ copied-all (now (a .text)) (now (a .part)) (l .j) (omega arith) (omega arith)
 
 pub copy-bytes-spec : {M : Type 1} → statement M
@@ -52,11 +38,11 @@ copy-bytes-spec =
     (tie.spec
     Inv-loop
     μ-loop
-    loop-holds
-    shared-slice-read-part
-    slice-write-part
-    add-j
-    loop-less
+    (λ c. search needs)
+    (λ c. search needs)
+    (λ c. omega arith)
+    (λ c. search needs)
+    (λ c. search needs)
     loop-again
-    same-length
+    (λ c. search needs)
     returns)

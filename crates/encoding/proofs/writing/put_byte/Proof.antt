@@ -6,17 +6,9 @@ use Rattle.encoding.proofs.WroteLaws.{wrote-byte}
 use Rattle.encoding.proofs.writing.put_byte.Statement.{statement}
 use Rattle.encoding.proofs.writing.put_byte.Tie as tie
 
-slice-write-out : tie.Need-slice-write-out
-slice-write-out c = search needs
-
-add-result : tie.Need-add-result
-add-result c = search needs
-
-same-length : tie.Need-same-length
-same-length c = search needs
-
 returns : tie.Need-returns
-returns c = let a = c .args in wrote-byte (now (a .out)) (a .at) (a .b) (omega arith)
+returns c = let s : tie.Start = search in let a = s .args in wrote-byte (now (a .out)) (a .at) (a .b) (omega arith)
 
 pub put-byte-spec : {M : Type 1} → statement M
-put-byte-spec = tie.close (tie.spec slice-write-out add-result same-length returns)
+put-byte-spec =
+    tie.close (tie.spec (λ c. search needs) (λ c. search needs) (λ c. search needs) returns)

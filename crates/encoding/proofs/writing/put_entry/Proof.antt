@@ -7,20 +7,13 @@ use Rattle.encoding.proofs.TextLaws.{length-numberText}
 use Rattle.encoding.proofs.writing.put_entry.Statement.{statement}
 use Rattle.encoding.proofs.writing.put_entry.Tie as tie
 
-put-byte-requires : tie.Need-put-byte-requires
-put-byte-requires c κs = search needs
-
-put-number-requires : tie.Need-put-number-requires
-put-number-requires c κs = search needs
-
-same-length : tie.Need-same-length
-same-length c = search needs
-
 returns : tie.Need-returns
 returns c =
-    let w = c .before .before .before .before .before .before .put-byte .ensures in
-    let v = c .before .before .put-number .ensures in
-    (wrote-more w v, omega (arith, w .past, v .past, length-numberText binary64 (c .before .before .before .before .before .before .before .before .before .args .x)))
+    let (put-number, put-byte, s) : tie.After-put-number × tie.After-put-byte × tie.Start = search in
+    let w = put-byte .put-byte .ensures in
+    let v = put-number .put-number .ensures in
+    (wrote-more w v, omega (arith, w .past, v .past, length-numberText binary64 (s .args .x)))
 
 pub put-entry-spec : {M : Type 1} → statement M
-put-entry-spec = tie.close (tie.spec put-byte-requires put-number-requires same-length returns)
+put-entry-spec =
+    tie.close (tie.spec (λ c κs. search needs) (λ c κs. search needs) (λ c. search needs) returns)

@@ -18,32 +18,21 @@ abbrev μ-loop : tie.MeasureT-loop
 μ-loop part₀ n digits rest₀ left₀ part rest left = left
 
 loop-holds : tie.Need-loop-holds Inv-loop μ-loop
-loop-holds c = let p = now (c .args .part) in (omega arith, refl, rw (drop-of-length-le p {i = length p} (omega arith), append-nil))
-
-sub-left : tie.Need-sub-left Inv-loop μ-loop
-sub-left c = search needs
-
-array-read-part : tie.Need-array-read-part Inv-loop μ-loop
-array-read-part c = search needs
-
-slice-write-part : tie.Need-slice-write-part Inv-loop μ-loop
-slice-write-part c = search needs
-
-loop-less : tie.Need-loop-less Inv-loop μ-loop
-loop-less c = search needs
+loop-holds c =
+    let s : tie.Start Inv-loop μ-loop = search in
+    let p = now (s .args .part) in (omega arith, refl, rw (drop-of-length-le p {i = length p} (omega arith), append-nil))
 
 loop-again : tie.Need-loop-again Inv-loop μ-loop
 loop-again c =
-    let l = c .before .loop in
+    let head : tie.At-loop Inv-loop μ-loop = search in
+    let l = head .loop in
     (omega arith, simp length-set (l .inv .1), rw (digit-at (l .rest % 16) (omega arith)) (hex-step (l .left) (l .rest) (l .part) (omega arith) (omega arith) ∙ l .inv .2))
-
-same-length : tie.Need-same-length Inv-loop μ-loop
-same-length c = search needs
 
 returns : tie.Need-returns Inv-loop μ-loop
 unfolding hexDigits
 returns c =
-    let l = c .before .loop in
+    let head : tie.At-loop Inv-loop μ-loop = search in
+    let l = head .loop in
     let z : l .left ≡ 0 = omega arith in
     rw z at (l .inv .2)
 
@@ -54,10 +43,10 @@ write-digits-spec =
     Inv-loop
     μ-loop
     loop-holds
-    sub-left
-    array-read-part
-    slice-write-part
-    loop-less
+    (λ c. search needs)
+    (λ c. search needs)
+    (λ c. search needs)
+    (λ c. search needs)
     loop-again
-    same-length
+    (λ c. search needs)
     returns)

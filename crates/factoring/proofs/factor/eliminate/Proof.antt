@@ -19,34 +19,19 @@ Inv-loop m₀ n k t i₀ m i = (k < i) × (i ≤ n) × (length m ≡ n * n) × (
 abbrev μ-loop : tie.MeasureT-loop
 μ-loop m₀ n k t i₀ m i = n - i
 
-entry-requires : tie.Need-entry-requires Inv-loop μ-loop
-entry-requires c κs = search needs
-
-add-i : tie.Need-add-i Inv-loop μ-loop
-add-i c = search needs
-
 loop-holds : tie.Need-loop-holds Inv-loop μ-loop
 loop-holds c =
-    let s = c .before .before .before in
+    let entry : tie.After-entry Inv-loop μ-loop = search in
+    let s : tie.Start Inv-loop μ-loop = search in
     let a = s .args in
-    (omega arith, omega arith, s .pre .1, eliminate-none binary64 (a .n) (a .k) (div binary64 (ofBits binary64 (emax binary64 * hid binary64)) (c .entry .result)) (a .m .now))
-
-eliminate-row-requires : tie.Need-eliminate-row-requires Inv-loop μ-loop
-eliminate-row-requires c κs = search needs
-
-add-i-2 : tie.Need-add-i-2 Inv-loop μ-loop
-add-i-2 c = search needs
-
-loop-less : tie.Need-loop-less Inv-loop μ-loop
-loop-less c = search needs
+    (omega arith, omega arith, s .pre .1, eliminate-none binary64 (a .n) (a .k) (div binary64 (ofBits binary64 (emax binary64 * hid binary64)) (entry .entry .result)) (a .m .now))
 
 loop-again : tie.Need-loop-again Inv-loop μ-loop
 loop-again c =
-    let row = c .before .before in
-    let turn = row .before .before in
-    let l = turn .before .loop in
-    let entry1 = turn .before .before in
-    let s = entry1 .before .before .before in
+    let (row, turn, head, entry1, s) :
+    tie.After-eliminate-row Inv-loop μ-loop × tie.In-loop Inv-loop μ-loop × tie.At-loop Inv-loop μ-loop × tie.After-entry Inv-loop μ-loop
+    × tie.Start Inv-loop μ-loop = search in
+    let l = head .loop in
     let a = s .args in
     let t = div binary64 (ofBits binary64 (emax binary64 * hid binary64)) (entry1 .entry .result) in
     let e =
@@ -54,15 +39,11 @@ loop-again c =
     (l .inv .0) (turn .loop-test .taken) (s .pre .1) (l .inv .3) (row .eliminate-row .ensures) in
     (omega arith, omega arith, ap length e ∙ length-rowsTo (a .n) (eliminatedEntry binary64 (a .n) (a .k) t (a .m .now)) (a .m .now) (l .i + 1) ∙ s .pre .1, e)
 
-same-length : tie.Need-same-length Inv-loop μ-loop
-same-length c = search needs
-
 returns : tie.Need-returns Inv-loop μ-loop
 unfolding ofBits
 returns c =
-    let l = c .before .loop in
-    let entry1 = c .before .before in
-    let s = entry1 .before .before .before in
+    let (head, entry1, s) : tie.At-loop Inv-loop μ-loop × tie.After-entry Inv-loop μ-loop × tie.Start Inv-loop μ-loop = search in
+    let l = head .loop in
     let a = s .args in
     let t = div binary64 one (entry1 .entry .result) in
     let e : l .i ≡ a .n = omega arith in
@@ -76,12 +57,12 @@ eliminate-spec =
     (tie.spec
     Inv-loop
     μ-loop
-    entry-requires
-    add-i
+    (λ c κs. search needs)
+    (λ c. search needs)
     loop-holds
-    eliminate-row-requires
-    add-i-2
-    loop-less
+    (λ c κs. search needs)
+    (λ c. search needs)
+    (λ c. search needs)
     loop-again
-    same-length
+    (λ c. search needs)
     returns)

@@ -7,24 +7,9 @@ use borrow.Author.Needs.{needs}
 use Rattle.factoring.proofs.factor.eliminate_row.Statement.{statement}
 use Rattle.factoring.proofs.factor.eliminate_row.Tie as tie
 
-entry-requires : tie.Need-entry-requires
-entry-requires c κs = search needs
-
-set-entry-requires : tie.Need-set-entry-requires
-set-entry-requires c κs = search needs
-
-subtract-row-requires : tie.Need-subtract-row-requires
-subtract-row-requires c κs = search needs
-
-same-length : tie.Need-same-length
-same-length c = search needs
-
 returns : tie.Need-returns
 returns c =
-    let sub1 = c .before .before in
-    let put1 = sub1 .before .before .before .before in
-    let entry1 = put1 .before .before in
-    let s = entry1 .before .before .before in
+    let (sub1, put1, entry1, s) : tie.After-subtract-row × tie.After-set-entry × tie.After-entry × tie.Start = search in
     let a = s .args in
     let u = entry1 .entry .result in
     reduce-is binary64 (a .n) (a .k) (a .i) (a .t) u (mul binary64 u (a .t)) (a .m .now) (put1 .set-entry .last .0) (sub1 .subtract-row .last .0)
@@ -32,4 +17,10 @@ returns c =
 
 pub eliminate-row-spec : {M : Type 1} → statement M
 eliminate-row-spec =
-    tie.close (tie.spec entry-requires set-entry-requires subtract-row-requires same-length returns)
+    tie.close
+    (tie.spec
+    (λ c κs. search needs)
+    (λ c κs. search needs)
+    (λ c κs. search needs)
+    (λ c. search needs)
+    returns)

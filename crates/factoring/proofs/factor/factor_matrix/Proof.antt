@@ -22,81 +22,38 @@ Inv-loop m₀ n pivots₀ tol k₀ m pivots k =
 abbrev μ-loop : tie.MeasureT-loop
 μ-loop m₀ n pivots₀ tol k₀ m pivots k = n - k
 
-tolerance-requires : tie.Need-tolerance-requires Inv-loop μ-loop
-tolerance-requires c κs = search needs
-
 loop-holds : tie.Need-loop-holds Inv-loop μ-loop
 unfolding luAt luOutcome
 loop-holds c =
-    let s = c .before .before .before in
+    let s : tie.Start Inv-loop μ-loop = search in
     let a = s .args in
     let e : a .n - 0 ≡ a .n = omega arith in
     (omega arith, s .pre .1, s .pre .2, refl, patch-none 0 0 (luPivot binary64 (a .n) (a .m .now)) (a .pivots .now), rw e)
 
-find-pivot-requires : tie.Need-find-pivot-requires Inv-loop μ-loop
-find-pivot-requires c κs = search needs
-
-entry-requires : tie.Need-entry-requires Inv-loop μ-loop
-entry-requires c κs = search needs
-
-magnitude-requires : tie.Need-magnitude-requires Inv-loop μ-loop
-magnitude-requires c κs = search needs
-
-same-length : tie.Need-same-length Inv-loop μ-loop
-same-length c = search needs
-
-same-length-2 : tie.Need-same-length-2 Inv-loop μ-loop
-same-length-2 c = search needs
-
 returns : tie.Need-returns Inv-loop μ-loop
 returns c =
-    let magnitude1 = c .before in
-    let entry1 = magnitude1 .before in
-    let pivot = entry1 .before .before in
-    let turn = pivot .before .before in
-    let l = turn .before .loop in
-    let first = turn .before .before in
-    let a = first .before .before .before .args in
+    let (taken1, magnitude1, entry1, pivot, turn, head, first, s) :
+    tie.Then1 Inv-loop μ-loop × tie.After-magnitude Inv-loop μ-loop × tie.After-entry Inv-loop μ-loop × tie.After-find-pivot Inv-loop μ-loop
+    × tie.In-loop Inv-loop μ-loop × tie.At-loop Inv-loop μ-loop × tie.After-tolerance Inv-loop μ-loop × tie.Start Inv-loop μ-loop = search in
+    let l = head .loop in
+    let a = s .args in
     record {
       outcome =
           refuse binary64 (a .n) (a .m .now) (l .k) (turn .loop-test .taken)
           (refused-is binary64 (a .n) (a .m .now) (l .k) (pivot .find-pivot .result) (l .m) (entry1 .entry .result) (magnitude1 .magnitude .result) (first .tolerance .result) true
-          (l .inv .3) (pivot .find-pivot .ensures .0) (entry1 .entry .ensures) (magnitude1 .magnitude .ensures) (first .tolerance .ensures) (c .if1 .taken))
+          (l .inv .3) (pivot .find-pivot .ensures .0) (entry1 .entry .ensures) (magnitude1 .magnitude .ensures) (first .tolerance .ensures) (taken1 .if1 .taken))
           (l .inv .5);
       factors = l .inv .3;
       pivots = l .inv .4;
     }
 
-mul-pivots : tie.Need-mul-pivots Inv-loop μ-loop
-mul-pivots c = search needs
-
-slice-write-pivots : tie.Need-slice-write-pivots Inv-loop μ-loop
-slice-write-pivots c = search needs
-
-swap-rows-requires : tie.Need-swap-rows-requires Inv-loop μ-loop
-swap-rows-requires c κs = search needs
-
-eliminate-requires : tie.Need-eliminate-requires Inv-loop μ-loop
-eliminate-requires c κs = search needs
-
-add-k : tie.Need-add-k Inv-loop μ-loop
-add-k c = search needs
-
-loop-less : tie.Need-loop-less Inv-loop μ-loop
-loop-less c = search needs
-
 loop-again : tie.Need-loop-again Inv-loop μ-loop
 loop-again c =
-    let eliminate1 = c .before .before in
-    let swap = eliminate1 .before .before .before .before in
-    let test = swap .before .before in
-    let magnitude1 = test .before in
-    let entry1 = magnitude1 .before in
-    let pivot = entry1 .before .before in
-    let turn = pivot .before .before in
-    let l = turn .before .loop in
-    let first = turn .before .before in
-    let s = first .before .before .before in
+    let (eliminate1, swap, test, magnitude1, entry1, pivot, turn, head, first, s) :
+    tie.After-eliminate Inv-loop μ-loop × tie.After-swap-rows Inv-loop μ-loop × tie.Else1 Inv-loop μ-loop × tie.After-magnitude Inv-loop μ-loop
+    × tie.After-entry Inv-loop μ-loop × tie.After-find-pivot Inv-loop μ-loop × tie.In-loop Inv-loop μ-loop × tie.At-loop Inv-loop μ-loop
+    × tie.After-tolerance Inv-loop μ-loop × tie.Start Inv-loop μ-loop = search in
+    let l = head .loop in
     let a = s .args in
     let p = pivot .find-pivot .result in
     let ps = a .pivots .now in
@@ -112,19 +69,14 @@ loop-again c =
       pass binary64 (a .n) (a .m .now) (l .k) (turn .loop-test .taken) passes (l .inv .5),
     )
 
-same-length-3 : tie.Need-same-length-3 Inv-loop μ-loop
-same-length-3 c = search needs
-
-same-length-4 : tie.Need-same-length-4 Inv-loop μ-loop
-same-length-4 c = search needs
-
 returns-2 : tie.Need-returns-2 Inv-loop μ-loop
 returns-2 c =
-    let l = c .before .loop in
-    let a = c .before .before .before .before .before .args in
+    let (end, head, s) : tie.After-loop Inv-loop μ-loop × tie.At-loop Inv-loop μ-loop × tie.Start Inv-loop μ-loop = search in
+    let l = head .loop in
+    let a = s .args in
     let e : l .k ≡ a .n = omega arith in
     record {
-      outcome = finish binary64 (a .n) (a .m .now) (l .k) (c .loop-test .left) (l .inv .5);
+      outcome = finish binary64 (a .n) (a .m .now) (l .k) (end .loop-test .left) (l .inv .5);
       factors = l .inv .3 ∙ ap (luAt binary64 (a .n) (a .m .now)) e;
       pivots = l .inv .4 ∙ ap (λ k. patch 0 k (luPivot binary64 (a .n) (a .m .now)) (a .pivots .now)) e;
     }
@@ -135,21 +87,21 @@ factor-matrix-spec =
     (tie.spec
     Inv-loop
     μ-loop
-    tolerance-requires
+    (λ c κs. search needs)
     loop-holds
-    find-pivot-requires
-    entry-requires
-    magnitude-requires
-    same-length
-    same-length-2
+    (λ c κs. search needs)
+    (λ c κs. search needs)
+    (λ c κs. search needs)
+    (λ c. search needs)
+    (λ c. search needs)
     returns
-    mul-pivots
-    slice-write-pivots
-    swap-rows-requires
-    eliminate-requires
-    add-k
-    loop-less
+    (λ c. search needs)
+    (λ c. search needs)
+    (λ c κs. search needs)
+    (λ c κs. search needs)
+    (λ c. search needs)
+    (λ c. search needs)
     loop-again
-    same-length-3
-    same-length-4
+    (λ c. search needs)
+    (λ c. search needs)
     returns-2)

@@ -21,41 +21,23 @@ Inv-loop m n k p₀ best₀ i₀ p best i =
 abbrev μ-loop : tie.MeasureT-loop
 μ-loop m n k p₀ best₀ i₀ p best i = n - i
 
-entry-requires : tie.Need-entry-requires Inv-loop μ-loop
-entry-requires c κs = search needs
-
-magnitude-requires : tie.Need-magnitude-requires Inv-loop μ-loop
-magnitude-requires c κs = search needs
-
-add-i : tie.Need-add-i Inv-loop μ-loop
-add-i c = search needs
-
 loop-holds : tie.Need-loop-holds Inv-loop μ-loop
 unfolding pivotAmong
 loop-holds c =
-    let s = c .before .before .before in
+    let (at-magnitude, entry, s) : tie.After-magnitude Inv-loop μ-loop × tie.After-entry Inv-loop μ-loop × tie.Start Inv-loop μ-loop = search in
     let none : s .args .k + 1 - suc (s .args .k) ≡ 0 = omega arith in
-    (omega arith, omega arith, omega arith, c .magnitude .ensures ∙ ap magnitude (c .before .entry .ensures), rw none)
-
-entry-requires-2 : tie.Need-entry-requires-2 Inv-loop μ-loop
-entry-requires-2 c κs = search needs
-
-magnitude-requires-2 : tie.Need-magnitude-requires-2 Inv-loop μ-loop
-magnitude-requires-2 c κs = search needs
-
-add-i-2 : tie.Need-add-i-2 Inv-loop μ-loop
-add-i-2 c = search needs
-
-loop-less : tie.Need-loop-less Inv-loop μ-loop
-loop-less c = search needs
+    (omega arith, omega arith, omega arith, at-magnitude .magnitude .ensures ∙ ap magnitude (entry .entry .ensures), rw none)
 
 loop-again : tie.Need-loop-again Inv-loop μ-loop
 loop-again c =
-    let a = c .before .before .before .before .before .before .before .before .args in
-    let l = c .before .before .before .before .loop in
+    let (joined1, magnitude2, entry2, head, s) :
+    tie.Joined1 Inv-loop μ-loop × tie.After-magnitude2 Inv-loop μ-loop × tie.After-entry2 Inv-loop μ-loop × tie.At-loop Inv-loop μ-loop
+    × tie.Start Inv-loop μ-loop = search in
+    let a = s .args in
+    let l = head .loop in
     let m = a .m .now in
-    let v : c .before .magnitude2 .result ≡ magnitude (at (a .n) m (l .i) (a .k)) = c .before .magnitude2 .ensures ∙ ap magnitude (c .before .before .entry2 .ensures) in
-    let t : lt (magnitude (at (a .n) m (l .p) (a .k))) (magnitude (at (a .n) m (l .i) (a .k))) ≡ lt (l .best) (c .before .magnitude2 .result) = ap₂ lt (sym (l .inv .3)) (sym v) in
+    let v : magnitude2 .magnitude2 .result ≡ magnitude (at (a .n) m (l .i) (a .k)) = magnitude2 .magnitude2 .ensures ∙ ap magnitude (entry2 .entry2 .ensures) in
+    let t : lt (magnitude (at (a .n) m (l .p) (a .k))) (magnitude (at (a .n) m (l .i) (a .k))) ≡ lt (l .best) (magnitude2 .magnitude2 .result) = ap₂ lt (sym (l .inv .3)) (sym v) in
     ⊎-elim (λ w. (
       omega arith,
       omega arith,
@@ -68,13 +50,15 @@ loop-again c =
       omega (arith, w .1),
       w .2 ∙ l .inv .3 ∙ ap (λ q. magnitude (at (a .n) m q (a .k))) (sym (w .1)),
       w .1 ∙ pivot-step (a .n) m (a .k) (l .i) (l .p) false (l .inv .0) (l .inv .4) (t ∙ w .0 .left),
-    )) (c .if1 .came)
+    )) (joined1 .if1 .came)
 
 returns : tie.Need-returns Inv-loop μ-loop
 unfolding pivotRow
 returns c =
-    let l = c .before .loop in
-    let e : l .i ≡ c .before .before .before .before .before .args .n = omega arith in
+    let head : tie.At-loop Inv-loop μ-loop = search in
+    let s : tie.Start Inv-loop μ-loop = search in
+    let l = head .loop in
+    let e : l .i ≡ s .args .n = omega arith in
     (l .inv .4 ∙ rw e, omega arith)
 
 pub find-pivot-spec : {M : Type 1} → statement M
@@ -83,13 +67,13 @@ find-pivot-spec =
     (tie.spec
     Inv-loop
     μ-loop
-    entry-requires
-    magnitude-requires
-    add-i
+    (λ c κs. search needs)
+    (λ c κs. search needs)
+    (λ c. search needs)
     loop-holds
-    entry-requires-2
-    magnitude-requires-2
-    add-i-2
-    loop-less
+    (λ c κs. search needs)
+    (λ c κs. search needs)
+    (λ c. search needs)
+    (λ c. search needs)
     loop-again
     returns)

@@ -5,12 +5,9 @@ use native.Mathlib.Omega.{arith}
 use Rattle.factoring.proofs.factor.tolerance.Statement.{statement}
 use Rattle.factoring.proofs.factor.tolerance.Tie as tie
 
-of-small-requires : tie.Need-of-small-requires
-of-small-requires c κs = omega arith
-
 returns : tie.Need-returns
 unfolding ofBits Rattle.factoring.specs.Lu.tolerance
-returns c = rw (c .of-small .ensures)
+returns c = let of-small : tie.After-of-small = search in rw (of-small .of-small .ensures)
 
 pub tolerance-spec : {M : Type 1} → statement M
-tolerance-spec = tie.close (tie.spec of-small-requires returns)
+tolerance-spec = tie.close (tie.spec (λ c κs. omega arith) returns)

@@ -9,41 +9,40 @@ use Rattle.factoring.proofs.swap.exchange_rows.Statement.{statement}
 use Rattle.factoring.proofs.swap.exchange_rows.Tie as tie
 
 mul-swap-parts : tie.Need-mul-swap-parts
-mul-swap-parts c = let s = c .before .before .before in omega (arith, row-end (s .args .k) (s .args .n) (s .args .m) (s .pre .0))
+mul-swap-parts c = let s : tie.Start = search in omega (arith, row-end (s .args .k) (s .args .n) (s .args .m) (s .pre .0))
 
 add-swap-parts : tie.Need-add-swap-parts
-add-swap-parts c = let s = c .before .before .before in omega (arith, row-end (s .args .k) (s .args .n) (s .args .m) (s .pre .0))
+add-swap-parts c = let s : tie.Start = search in omega (arith, row-end (s .args .k) (s .args .n) (s .args .m) (s .pre .0))
 
 mul-swap-parts-2 : tie.Need-mul-swap-parts-2
-mul-swap-parts-2 c = let s = c .before .before .before in omega (arith, row-end (s .args .p) (s .args .n) (s .args .m) (s .pre .1))
+mul-swap-parts-2 c = let s : tie.Start = search in omega (arith, row-end (s .args .p) (s .args .n) (s .args .m) (s .pre .1))
 
 add-swap-parts-2 : tie.Need-add-swap-parts-2
-add-swap-parts-2 c = let s = c .before .before .before in omega (arith, row-end (s .args .p) (s .args .n) (s .args .m) (s .pre .1))
+add-swap-parts-2 c = let s : tie.Start = search in omega (arith, row-end (s .args .p) (s .args .n) (s .args .m) (s .pre .1))
 
 swap-parts-requires : tie.Need-swap-parts-requires
 swap-parts-requires c κs =
-    let s = c .before .before .before in
+    let taken1 : tie.Then1 = search in
+    let s : tie.Start = search in
     let a = s .args in (
       omega (arith, row-end (a .k) (a .n) (a .m) (s .pre .0)),
       omega (arith, row-end (a .p) (a .n) (a .m) (s .pre .1)),
-      rows-apart (a .x) (a .m) (a .p) (a .k) (c .before .if1 .taken),
+      rows-apart (a .x) (a .m) (a .p) (a .k) (taken1 .if1 .taken),
     )
-
-same-length : tie.Need-same-length
-same-length c = search needs
 
 returns : tie.Need-returns
 returns c =
-    let call = c .before .before in
-    let s = call .before .before .before .before in
+    let call : tie.After-swap-parts = search in
+    let s : tie.Start = search in
     let a = s .args in
     call .swap-parts .ensures ∙ swap-rows-in (a .w .now) (a .x) (a .n) (a .m) (a .k) (a .p) (s .pre .0) (s .pre .1) (s .pre .2)
 
 returns-2 : tie.Need-returns-2
 returns-2 c =
-    let s = c .before .before in
+    let left1 : tie.Else1 = search in
+    let s : tie.Start = search in
     let a = s .args in
-    rw (c .if1 .left) (each-none (a .w .now) (a .x) (a .n) (a .m) (swapItems (a .n) (a .k) (a .k)) (s .pre .2) (swap-self (a .n) (a .k)))
+    rw (left1 .if1 .left) (each-none (a .w .now) (a .x) (a .n) (a .m) (swapItems (a .n) (a .k) (a .k)) (s .pre .2) (swap-self (a .n) (a .k)))
 
 pub exchange-rows-spec : {M : Type 1} → statement M
 exchange-rows-spec =
@@ -54,6 +53,6 @@ exchange-rows-spec =
     mul-swap-parts-2
     add-swap-parts-2
     swap-parts-requires
-    same-length
+    (λ c. search needs)
     returns
     returns-2)

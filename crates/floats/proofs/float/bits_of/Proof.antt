@@ -9,13 +9,16 @@ use Rattle.floats.proofs.float.bits_of.Statement.{statement}
 use Rattle.floats.proofs.float.bits_of.Tie as tie
 
 float-to-bits-result : tie.Need-float-to-bits-result
-float-to-bits-result c = equals-itself (c .before .args .x) (λ t. subst T (c .if1 .left) t)
+float-to-bits-result c =
+    let left1 : tie.Else1 = search in
+    let s : tie.Start = search in
+    equals-itself (s .args .x) (λ t. subst T (left1 .if1 .left) t)
 
 returns : tie.Need-returns
-returns c = nan-bits binary64 (c .before .args .x) (c .if1 .taken)
-
-returns-2 : tie.Need-returns-2
-returns-2 c = search needs
+returns c =
+    let taken1 : tie.Then1 = search in
+    let s : tie.Start = search in
+    nan-bits binary64 (s .args .x) (taken1 .if1 .taken)
 
 pub bits-of-spec : {M : Type 1} → statement M
-bits-of-spec = tie.close (tie.spec float-to-bits-result returns returns-2)
+bits-of-spec = tie.close (tie.spec float-to-bits-result returns (λ c. search needs))

@@ -6,13 +6,16 @@ use Rattle.floats.proofs.float.float_of.Statement.{statement}
 use Rattle.floats.proofs.float.float_of.Tie as tie
 
 float-from-bits-result : tie.Need-float-from-bits-result
-float-from-bits-result c = no-nan-pattern binary64 (c .before .args .bits) (c .if1 .left)
+float-from-bits-result c =
+    let left1 : tie.Else1 = search in
+    let s : tie.Start = search in
+    no-nan-pattern binary64 (s .args .bits) (left1 .if1 .left)
 
 returns : tie.Need-returns
-returns c = nan-pattern binary64 (c .before .args .bits) (c .if1 .taken)
-
-returns-2 : tie.Need-returns-2
-returns-2 c = search needs
+returns c =
+    let taken1 : tie.Then1 = search in
+    let s : tie.Start = search in
+    nan-pattern binary64 (s .args .bits) (taken1 .if1 .taken)
 
 pub float-of-spec : {M : Type 1} → statement M
-float-of-spec = tie.close (tie.spec float-from-bits-result returns returns-2)
+float-of-spec = tie.close (tie.spec float-from-bits-result returns (λ c. search needs))

@@ -9,27 +9,31 @@ use Rattle.floats.proofs.Halves.{half-small, half-cut, cut-le}
 use Rattle.floats.proofs.float.half_up.Statement.{statement}
 use Rattle.floats.proofs.float.half_up.Tie as tie
 
-add-digits : tie.Need-add-digits
-add-digits c = search needs
-
-sub-result : tie.Need-sub-result
-sub-result c = search needs
-
-shr-result : tie.Need-shr-result
-shr-result c = search needs
-
 add-result : tie.Need-add-result
 add-result c =
-    let b = c .before .args .bits in
+    let s : tie.Start = search in
+    let b = s .args .bits in
     omega (arith, div-le-self (b % 2 ^ 52 + 2 ^ 52) (2 ^ (1074 - b / 2 ^ 52)))
 
 returns : tie.Need-returns
-returns c = (half-small binary64 (c .before .args .bits) (lit≤ tt) (c .if1 .taken), omega arith)
+returns c =
+    let taken1 : tie.Then1 = search in
+    let s : tie.Start = search in
+    (half-small binary64 (s .args .bits) (lit≤ tt) (taken1 .if1 .taken), omega arith)
 
 returns-2 : tie.Need-returns-2
 returns-2 c =
-    let b = c .before .args .bits in
+    let s : tie.Start = search in
+    let b = s .args .bits in
     (half-cut binary64 b (omega arith) (omega arith) (omega arith), cut-le binary64 b)
 
 pub half-up-spec : {M : Type 1} → statement M
-half-up-spec = tie.close (tie.spec add-digits sub-result shr-result add-result returns returns-2)
+half-up-spec =
+    tie.close
+    (tie.spec
+    (λ c. search needs)
+    (λ c. search needs)
+    (λ c. search needs)
+    add-result
+    returns
+    returns-2)

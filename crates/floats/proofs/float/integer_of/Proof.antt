@@ -8,15 +8,12 @@ use Rattle.floats.specs.Float.{integerOf}
 use Rattle.floats.proofs.float.integer_of.Statement.{statement}
 use Rattle.floats.proofs.float.integer_of.Tie as tie
 
-round-requires : tie.Need-round-requires
-round-requires c κs = search needs
-
-to-i64-requires : tie.Need-to-i64-requires
-to-i64-requires c κs = search needs
-
 returns : tie.Need-returns
 unfolding integerOf
-returns c = toZ-ofZ {w = w64} (record { sfits = c .to-i64 .ok }) ∙ c .to-i64 .ensures ∙ ap (toSigned 63) (c .before .round .ensures)
+returns c =
+    let to-i64 : tie.After-to-i64 = search in
+    let round : tie.After-round = search in
+    toZ-ofZ {w = w64} (record { sfits = to-i64 .to-i64 .ok }) ∙ to-i64 .to-i64 .ensures ∙ ap (toSigned 63) (round .round .ensures)
 
 pub integer-of-spec : {M : Type 1} → statement M
-integer-of-spec = tie.close (tie.spec round-requires to-i64-requires returns)
+integer-of-spec = tie.close (tie.spec (λ c κs. search needs) (λ c κs. search needs) returns)

@@ -8,11 +8,17 @@ use Rattle.floats.proofs.float.is_finite.Tie as tie
 
 returns : tie.Need-returns
 unfolding ofBits div neg
-returns c = finite-above (c .before .args .x) (subst T (sym (c .if1 .taken)) tt)
+returns c =
+    let taken1 : tie.Then1 = search in
+    let s : tie.Start = search in
+    finite-above (s .args .x) (subst T (sym (taken1 .if1 .taken)) tt)
 
 returns-2 : tie.Need-returns-2
 unfolding ofBits div neg
-returns-2 c = c .if1 .left ∙ finite-below (c .before .args .x) (λ t. subst T (c .if1 .left) t)
+returns-2 c =
+    let left1 : tie.Else1 = search in
+    let s : tie.Start = search in
+    left1 .if1 .left ∙ finite-below (s .args .x) (λ t. subst T (left1 .if1 .left) t)
 
 pub is-finite-spec : {M : Type 1} → statement M
 is-finite-spec = tie.close (tie.spec returns returns-2)

@@ -6,17 +6,12 @@ use Rattle.floats.specs.Float.{magnitude, nearInteger}
 use Rattle.floats.proofs.float.is_integer.Statement.{statement}
 use Rattle.floats.proofs.float.is_integer.Tie as tie
 
-round-requires : tie.Need-round-requires
-round-requires c κs = search needs
-
-magnitude-requires : tie.Need-magnitude-requires
-magnitude-requires c κs = search needs
-
 returns : tie.Need-returns
 unfolding nearInteger
 returns c =
-    let p = c .before .before .args .p in
-    ap (λ (v : Float). lt v (ofBits binary64 0x3d06_849b_86a1_2b9b)) (c .magnitude .ensures ∙ ap (λ (v : Float). magnitude (sub binary64 p v)) (c .before .round .ensures))
+    let (at-magnitude, round, s) : tie.After-magnitude × tie.After-round × tie.Start = search in
+    let p = s .args .p in
+    ap (λ (v : Float). lt v (ofBits binary64 0x3d06_849b_86a1_2b9b)) (at-magnitude .magnitude .ensures ∙ ap (λ (v : Float). magnitude (sub binary64 p v)) (round .round .ensures))
 
 pub is-integer-spec : {M : Type 1} → statement M
-is-integer-spec = tie.close (tie.spec round-requires magnitude-requires returns)
+is-integer-spec = tie.close (tie.spec (λ c κs. search needs) (λ c κs. search needs) returns)

@@ -8,7 +8,7 @@ use Rattle.floats.proofs.float.of_small.Tie as tie
 
 int-to-float-result : tie.Need-int-to-float-result
 unfolding inFloat
-int-to-float-result c = le→leb (c .before .args .n) (2 ^ 53) (c .before .pre)
+int-to-float-result c = let s : tie.Start = search in le→leb (s .args .n) (2 ^ 53) (s .pre)
 
 pub of-small-spec : {M : Type 1} → statement M
 of-small-spec = tie.close (tie.spec int-to-float-result (λ c. refl))

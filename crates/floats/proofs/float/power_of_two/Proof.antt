@@ -9,24 +9,20 @@ use Rattle.floats.proofs.Powers.{pow-bits, power-is}
 use Rattle.floats.proofs.float.power_of_two.Statement.{statement}
 use Rattle.floats.proofs.float.power_of_two.Tie as tie
 
-add-result : tie.Need-add-result
-add-result c = search needs
-
-mul-result : tie.Need-mul-result
-mul-result c = search needs
-
 float-from-bits-result : tie.Need-float-from-bits-result
-float-from-bits-result c = low-no-nan binary64 ((c .args .s + 1023) * 2 ^ 52) (omega arith)
+float-from-bits-result c = let s : tie.Start = search in low-no-nan binary64 ((s .args .s + 1023) * 2 ^ 52) (omega arith)
 
 field : (s : ℕ) → s + 1074 + 2 - 53 ≡ s + 1023
 field s = omega arith
 
 returns : tie.Need-returns
 returns c =
-    let s = c .args .s in
+    let start : tie.Start = search in
+    let s = start .args .s in
     ap (λ (n : ℕ). ofBits binary64 (n * 2 ^ 52)) (sym (field s))
     ∙ pow-bits binary64 (s + 1074) (omega arith) (omega arith)
     ∙ power-is 1074 s
 
 pub power-of-two-spec : {M : Type 1} → statement M
-power-of-two-spec = tie.close (tie.spec add-result mul-result float-from-bits-result returns)
+power-of-two-spec =
+    tie.close (tie.spec (λ c. search needs) (λ c. search needs) float-from-bits-result returns)

@@ -8,34 +8,14 @@ use borrow.Author.Needs.{needs}
 use Rattle.functions.proofs.condition.cond_expm_in.Statement.{statement}
 use Rattle.functions.proofs.condition.cond_expm_in.Tie as tie
 
-unit-direction-requires : tie.Need-unit-direction-requires
-unit-direction-requires c κs = search needs
-
-frechet-expm-in-requires : tie.Need-frechet-expm-in-requires
-frechet-expm-in-requires c κs = search needs
-
-condition-answer-requires : tie.Need-condition-answer-requires
-condition-answer-requires c κs = search needs
-
-same-length : tie.Need-same-length
-same-length c = search needs
-
-same-length-2 : tie.Need-same-length-2
-same-length-2 c = search needs
-
-same-length-3 : tie.Need-same-length-3
-same-length-3 c = search needs
-
-same-length-4 : tie.Need-same-length-4
-same-length-4 c = search needs
-
 returns : tie.Need-returns
 returns c =
-    let s = c .before .before .before .before .before .before .before .before .before .before .before .before .before .before .before .before .before .before .before .before .before .before .before .before .before .before in
+    let (condition, frechet-expm-in, unit-direction, s) :
+    tie.After-condition-answer × tie.After-frechet-expm-in × tie.After-unit-direction × tie.Start = search in
     let a = s .args in
-    let u = c .before .before .before .before .before .before .before .before .before .before .before .before .before .before .before .before .before .before .unit-direction in
-    let f = c .before .before .before .before .before .before .before .before .before .frechet-expm-in in
-    let k = c .condition-answer in
+    let u = unit-direction .unit-direction in
+    let f = frechet-expm-in .frechet-expm-in in
+    let k = condition .condition-answer in
     let n = a .n in
     let few : n ≤ 16 = omega (arith, s .pre .1 .0) in
     let x′ = f .last .1 .1 .1 .0 in
@@ -49,11 +29,11 @@ pub cond-expm-in-spec : {M : Type 1} → statement M
 cond-expm-in-spec =
     tie.close
     (tie.spec
-    unit-direction-requires
-    frechet-expm-in-requires
-    condition-answer-requires
-    same-length
-    same-length-2
-    same-length-3
-    same-length-4
+    (λ c κs. search needs)
+    (λ c κs. search needs)
+    (λ c κs. search needs)
+    (λ c. search needs)
+    (λ c. search needs)
+    (λ c. search needs)
+    (λ c. search needs)
     returns)

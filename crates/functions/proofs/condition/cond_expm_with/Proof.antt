@@ -17,74 +17,64 @@ use borrow.Author.Needs.{needs}
 use Rattle.functions.proofs.condition.cond_expm_with.Statement.{statement}
 use Rattle.functions.proofs.condition.cond_expm_with.Tie as tie
 
-ask-cond-expm-requires : tie.Need-ask-cond-expm-requires
-ask-cond-expm-requires c κs = search needs
-
-enum-known-why : tie.Need-enum-known-why
-enum-known-why c = search needs
-
-refused-condition-requires : tie.Need-refused-condition-requires
-refused-condition-requires c κs = search needs
-
-enum-told : tie.Need-enum-told
-enum-told c = search needs
-
 cond-expm-with-room-requires : tie.Need-cond-expm-with-room-requires
 cond-expm-with-room-requires c κs =
-    let a = c .before .before .before .before .before .before .args in
-    let asked = c .before .before .before .ask-cond-expm in
+    let (told, ask-cond-expm, start) : tie.After-enum-told × tie.After-ask-cond-expm × tie.Start = search in
+    let a = start .args in
+    let asked = ask-cond-expm .ask-cond-expm in
     let call = unary (a .rows) (a .columns) (now (a .a)) [] (length (now (a .w))) in
-    let s = accepted false anywhere false call (asked .result) (asked .ensures) (c .before .enum-told .given .1) .shape in
+    let s = accepted false anywhere false call (asked .result) (asked .ensures) (told .enum-told .given .1) .shape in
     (record { order = omega (arith, s .small); space = s .room }, (s .small, s .long))
 
 clear-where-requires : tie.Need-clear-where-requires
 clear-where-requires c κs =
-    let a = c .before .before .before .before .before .before .before .before .before .before .args in
-    let asked = c .before .before .before .before .before .before .before .ask-cond-expm in
+    let (cond, told, ask-cond-expm, start) : tie.After-cond-expm-with-room × tie.After-enum-told × tie.After-ask-cond-expm × tie.Start = search in
+    let a = start .args in
+    let asked = ask-cond-expm .ask-cond-expm in
     let call = unary (a .rows) (a .columns) (now (a .a)) [] (length (now (a .w))) in
-    let s = accepted false anywhere false call (asked .result) (asked .ensures) (c .before .before .before .before .before .enum-told .given .1) .shape in
-    omega (arith, s .room, c .before .before .before .cond-expm-with-room .ensures .1 .long)
+    let s = accepted false anywhere false call (asked .result) (asked .ensures) (told .enum-told .given .1) .shape in
+    omega (arith, s .room, cond .cond-expm-with-room .ensures .1 .long)
 
 returns : tie.Need-returns
 unfolding condExpm
 returns c =
-    let a = c .before .before .before .before .before .before .before .args in
-    let asked = c .before .before .before .before .ask-cond-expm in
+    let (refused, why, ask-cond-expm, s) : tie.After-refused-condition × tie.After-why × tie.After-ask-cond-expm × tie.Start = search in
+    let a = s .args in
+    let asked = ask-cond-expm .ask-cond-expm in
     let call = unary (a .rows) (a .columns) (now (a .a)) [] (length (now (a .w))) in
-    let r = c .refused-condition in
+    let r = refused .refused-condition in
     let x = condExpM binary64 (a .rows) (now (a .a)) in
-    let t = c .before .before .why .given .1 in (
+    let t = why .why .given .1 in (
       condition-refused ofCondExpm call (asked .result) (asked .ensures) (r .result .outcome) x (r .result .ratio) (r .result .derivative) (r .result .exponential) _ t (r .ensures .0) (r .ensures .1) (r .ensures .2) (r .ensures .3),
       kept-where (a .clears) (condExpm binary64 (a .rows) (a .columns) (now (a .a)) (length (now (a .w)))) (now (a .w)) (sym (workspace-no ofCondExpm call x (asked .result) (asked .ensures) _ t (now (a .w)))),
     )
 
-same-length : tie.Need-same-length
-same-length c = search needs
-
 returns-2 : tie.Need-returns-2
 unfolding condExpm
 returns-2 c =
-    let a = c .before .before .before .before .before .before .before .before .before .before .before .before .before .args in
-    let asked = c .before .before .before .before .before .before .before .before .before .before .ask-cond-expm in
+    let (clear-where, cond, told, ask-cond-expm, start) :
+    tie.After-clear-where × tie.After-cond-expm-with-room × tie.After-enum-told × tie.After-ask-cond-expm × tie.Start = search in
+    let a = start .args in
+    let asked = ask-cond-expm .ask-cond-expm in
     let call = unary (a .rows) (a .columns) (now (a .a)) [] (length (now (a .w))) in
-    let s = accepted false anywhere false call (asked .result) (asked .ensures) (c .before .before .before .before .before .before .before .before .enum-told .given .1) .shape in
-    let r = c .before .before .before .before .before .before .cond-expm-with-room in
+    let s = accepted false anywhere false call (asked .result) (asked .ensures) (told .enum-told .given .1) .shape in
+    let r = cond .cond-expm-with-room in
     let x = condExpM binary64 (a .rows) (now (a .a)) in
-    let t = c .before .before .before .before .before .before .before .before .enum-told .given .1 in (
+    let t = told .enum-told .given .1 in (
       condition-passed ofCondExpm call (asked .result) (asked .ensures) (r .result .outcome) x (r .result .ratio) (r .result .derivative) (r .result .exponential) t (r .ensures .0),
-      workspace-passed ofCondExpm call (asked .result) (asked .ensures) (r .result .outcome) x (r .result .ratio) (r .result .derivative) (r .result .exponential) (a .clears) (now (a .w)) (r .last .1 .1 .0) (c .before .before .clear-where .last .0) t (late-condExpM binary64 (a .rows) (now (a .a))) (s .room) (r .ensures .1) (c .before .before .clear-where .ensures),
+      workspace-passed ofCondExpm call (asked .result) (asked .ensures) (r .result .outcome) x (r .result .ratio) (r .result .derivative) (r .result .exponential) (a .clears) (now (a .w)) (r .last .1 .1 .0) (clear-where .clear-where .last .0) t (late-condExpM binary64 (a .rows) (now (a .a))) (s .room) (r .ensures .1) (clear-where .clear-where .ensures),
     )
 
 pub cond-expm-with-spec : {M : Type 1} → statement M
 cond-expm-with-spec =
     tie.close
     (tie.spec
-    ask-cond-expm-requires
-    enum-known-why
-    refused-condition-requires
-    enum-told
+    (λ c κs. search needs)
+    (λ c. search needs)
+    (λ c κs. search needs)
+    (λ c. search needs)
     cond-expm-with-room-requires
     clear-where-requires
     returns
-    same-length
+    (λ c. search needs)
     returns-2)

@@ -8,37 +8,27 @@ use borrow.Author.Needs.{needs}
 use Rattle.functions.proofs.condition.condition_answer.Statement.{statement}
 use Rattle.functions.proofs.condition.condition_answer.Tie as tie
 
-enum-known-outcome : tie.Need-enum-known-outcome
-enum-known-outcome c = search needs
-
-condition-of-requires : tie.Need-condition-of-requires
-condition-of-requires c κs = search needs
-
-enum-known-outcome-2 : tie.Need-enum-known-outcome-2
-enum-known-outcome-2 c = search needs
-
-refused-condition-requires : tie.Need-refused-condition-requires
-refused-condition-requires c κs = search needs
-
 returns : tie.Need-returns
 returns c =
-    let a = c .before .before .before .before .before .before .args in
-    let k = c .condition-of in
-    answered-done (conditionOf binary64 (frobenius binary64 (a .n) (now (a .x))) (frobenius binary64 (a .n) (now (a .d)))) (a .outcome) _ (k .result .ratio) (k .result .derivative) (k .result .exponential) (c .before .before .outcome .given .1) (k .ensures)
+    let (condition-of, outcome, s) : tie.After-condition-of × tie.After-outcome × tie.Start = search in
+    let a = s .args in
+    let k = condition-of .condition-of in
+    answered-done (conditionOf binary64 (frobenius binary64 (a .n) (now (a .x))) (frobenius binary64 (a .n) (now (a .d)))) (a .outcome) _ (k .result .ratio) (k .result .derivative) (k .result .exponential) (outcome .outcome .given .1) (k .ensures)
 
 returns-2 : tie.Need-returns-2
 returns-2 c =
-    let a = c .before .before .before .before .before .before .args in
-    let k = c .refused-condition in
-    answered-none (conditionOf binary64 (frobenius binary64 (a .n) (now (a .x))) (frobenius binary64 (a .n) (now (a .d)))) (a .outcome) (k .result .outcome) _ (k .result .ratio) (k .result .derivative) (k .result .exponential) (c .before .before .outcome2 .given .1) (k .ensures .0) (k .ensures .1) (k .ensures .2) (k .ensures .3)
+    let (refused, outcome2, s) : tie.After-refused-condition × tie.After-outcome2 × tie.Start = search in
+    let a = s .args in
+    let k = refused .refused-condition in
+    answered-none (conditionOf binary64 (frobenius binary64 (a .n) (now (a .x))) (frobenius binary64 (a .n) (now (a .d)))) (a .outcome) (k .result .outcome) _ (k .result .ratio) (k .result .derivative) (k .result .exponential) (outcome2 .outcome2 .given .1) (k .ensures .0) (k .ensures .1) (k .ensures .2) (k .ensures .3)
 
 pub condition-answer-spec : {M : Type 1} → statement M
 condition-answer-spec =
     tie.close
     (tie.spec
-    enum-known-outcome
-    condition-of-requires
-    enum-known-outcome-2
-    refused-condition-requires
+    (λ c. search needs)
+    (λ c κs. search needs)
+    (λ c. search needs)
+    (λ c κs. search needs)
     returns
     returns-2)

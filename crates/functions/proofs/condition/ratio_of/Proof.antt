@@ -9,13 +9,17 @@ use Rattle.functions.proofs.condition.ratio_of.Tie as tie
 
 returns : tie.Need-returns
 returns c =
-    let a = c .before .args in
-    sym (ap (λ (b : Bool). cond b (div binary64 (a .d) (a .x)) one) (ap (λ (z : Float). lt z (a .x)) (sym (+zero-bits binary64)) ∙ c .if1 .taken))
+    let taken1 : tie.Then1 = search in
+    let s : tie.Start = search in
+    let a = s .args in
+    sym (ap (λ (b : Bool). cond b (div binary64 (a .d) (a .x)) one) (ap (λ (z : Float). lt z (a .x)) (sym (+zero-bits binary64)) ∙ taken1 .if1 .taken))
 
 returns-2 : tie.Need-returns-2
 returns-2 c =
-    let a = c .before .args in
-    one-bits binary64 ∙ sym (ap (λ (b : Bool). cond b (div binary64 (a .d) (a .x)) one) (ap (λ (z : Float). lt z (a .x)) (sym (+zero-bits binary64)) ∙ c .if1 .left))
+    let left1 : tie.Else1 = search in
+    let s : tie.Start = search in
+    let a = s .args in
+    one-bits binary64 ∙ sym (ap (λ (b : Bool). cond b (div binary64 (a .d) (a .x)) one) (ap (λ (z : Float). lt z (a .x)) (sym (+zero-bits binary64)) ∙ left1 .if1 .left))
 
 pub ratio-of-spec : {M : Type 1} → statement M
 ratio-of-spec = tie.close (tie.spec returns returns-2)

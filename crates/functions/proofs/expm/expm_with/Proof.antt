@@ -18,81 +18,70 @@ use borrow.Author.Needs.{needs}
 use Rattle.functions.proofs.expm.expm_with.Statement.{statement}
 use Rattle.functions.proofs.expm.expm_with.Tie as tie
 
-ask-expm-requires : tie.Need-ask-expm-requires
-ask-expm-requires c κs = search needs
-
-enum-known-why : tie.Need-enum-known-why
-enum-known-why c = search needs
-
-refused-requires : tie.Need-refused-requires
-refused-requires c κs = search needs
-
-enum-told : tie.Need-enum-told
-enum-told c = search needs
-
 copy-in-requires : tie.Need-copy-in-requires
 copy-in-requires c κs =
-    let a = c .before .before .before .before .before .before .before .args in
-    let asked = c .before .before .before .ask-expm in
+    let (told, ask-expm, start) : tie.After-enum-told × tie.After-ask-expm × tie.Start = search in
+    let a = start .args in
+    let asked = ask-expm .ask-expm in
     let call = unary (a .rows) (a .columns) (now (a .a)) (length (now (a .out)) ∷ []) (length (now (a .w))) in
-    let s = accepted false anywhere true call (asked .result) (asked .ensures) (c .before .enum-told .given .1) .shape in
+    let s = accepted false anywhere true call (asked .result) (asked .ensures) (told .enum-told .given .1) .shape in
     (lit< tt, omega (arith, square-le (a .rows) (omega (arith, s .small)), s .long, s .room))
 
 expm-in-requires : tie.Need-expm-in-requires
 expm-in-requires c κs =
-    let a = c .before .before .before .before .before .before .before .before .before .before .before .args in
-    let asked = c .before .before .before .before .before .before .before .ask-expm in
+    let (copy-in, told, ask-expm, start) : tie.After-copy-in × tie.After-enum-told × tie.After-ask-expm × tie.Start = search in
+    let a = start .args in
+    let asked = ask-expm .ask-expm in
     let call = unary (a .rows) (a .columns) (now (a .a)) (length (now (a .out)) ∷ []) (length (now (a .w))) in
-    let s = accepted false anywhere true call (asked .result) (asked .ensures) (c .before .before .before .before .before .enum-told .given .1) .shape in
-    record { order = omega (arith, s .small); space = omega (arith, s .room, c .before .before .before .copy-in .kept .0) }
+    let s = accepted false anywhere true call (asked .result) (asked .ensures) (told .enum-told .given .1) .shape in
+    record { order = omega (arith, s .small); space = omega (arith, s .room, copy-in .copy-in .kept .0) }
 
 deliver-requires : tie.Need-deliver-requires
 deliver-requires c κs =
-    let a = c .before .before .before .before .before .before .before .before .before .before .before .before .before .before .before .before .args in
-    let asked = c .before .before .before .before .before .before .before .before .before .before .before .before .ask-expm in
+    let (expm-in, copy-in, told, ask-expm, start) :
+    tie.After-expm-in × tie.After-copy-in × tie.After-enum-told × tie.After-ask-expm × tie.Start = search in
+    let a = start .args in
+    let asked = ask-expm .ask-expm in
     let call = unary (a .rows) (a .columns) (now (a .a)) (length (now (a .out)) ∷ []) (length (now (a .w))) in
-    let s = accepted false anywhere true call (asked .result) (asked .ensures) (c .before .before .before .before .before .before .before .before .before .before .enum-told .given .1) .shape in
-    (omega (arith, square-le (a .rows) (omega (arith, s .small)), s .outputs .0), omega (arith, s .room, c .before .before .before .before .before .before .before .before .copy-in .kept .0, c .before .before .before .before .expm-in .ensures .only .long))
+    let s = accepted false anywhere true call (asked .result) (asked .ensures) (told .enum-told .given .1) .shape in
+    (omega (arith, square-le (a .rows) (omega (arith, s .small)), s .outputs .0), omega (arith, s .room, copy-in .copy-in .kept .0, expm-in .expm-in .ensures .only .long))
 
 returns : tie.Need-returns
 unfolding expm
 returns c =
-    let a = c .before .before .before .before .before .before .before .before .args in
-    let asked = c .before .before .before .before .ask-expm in
+    let (refused, why, ask-expm, s) : tie.After-refused × tie.After-why × tie.After-ask-expm × tie.Start = search in
+    let a = s .args in
+    let asked = ask-expm .ask-expm in
     let call = unary (a .rows) (a .columns) (now (a .a)) (length (now (a .out)) ∷ []) (length (now (a .w))) in
-    one-refused ofExpm call (asked .result) (asked .ensures) (a .clears) (c .refused .result .outcome) (now (a .out)) (now (a .w)) (expM binary64 (a .rows) (now (a .a))) _ (c .before .before .why .given .1) (c .refused .ensures)
-
-same-length : tie.Need-same-length
-same-length c = search needs
-
-same-length-2 : tie.Need-same-length-2
-same-length-2 c = search needs
+    one-refused ofExpm call (asked .result) (asked .ensures) (a .clears) (refused .refused .result .outcome) (now (a .out)) (now (a .w)) (expM binary64 (a .rows) (now (a .a))) _ (why .why .given .1) (refused .refused .ensures)
 
 returns-2 : tie.Need-returns-2
 unfolding expm
 returns-2 c =
-    let a = c .before .before .before .before .before .before .before .before .before .before .before .before .before .before .before .before .before .before .before .before .before .args in
-    let asked = c .before .before .before .before .before .before .before .before .before .before .before .before .before .before .before .before .before .ask-expm in
+    let (deliver, expm-in, copy-in, told, ask-expm, start) :
+    tie.After-deliver × tie.After-expm-in × tie.After-copy-in × tie.After-enum-told × tie.After-ask-expm × tie.Start = search in
+    let a = start .args in
+    let asked = ask-expm .ask-expm in
     let call = unary (a .rows) (a .columns) (now (a .a)) (length (now (a .out)) ∷ []) (length (now (a .w))) in
-    let s = accepted false anywhere true call (asked .result) (asked .ensures) (c .before .before .before .before .before .before .before .before .before .before .before .before .before .before .before .enum-told .given .1) .shape in
-    let copy1 = c .before .before .before .before .before .before .before .before .before .before .before .before .before .copy-in in
-    let x = c .before .before .before .before .before .before .before .before .before .expm-in in
-    let d = c .before .before .before .before .deliver in
+    let s = accepted false anywhere true call (asked .result) (asked .ensures) (told .enum-told .given .1) .shape in
+    let copy1 = copy-in .copy-in in
+    let x = expm-in .expm-in in
+    let d = deliver .deliver in
     one-done ofExpm call (asked .result) (asked .ensures) (a .clears) (d .result .outcome) (now (a .out)) (now (a .w)) (0 ∷ 1 ∷ 2 ∷ 3 ∷ 4 ∷ 5 ∷ []) (a .rows) (expM binary64 (a .rows)) (now (a .a)) (d .last .1 .0) (copy1 .last .0) (x .last .0) (d .last .1 .1 .0)
-    (x .result) (c .before .before .before .before .before .before .before .before .before .before .before .before .before .before .before .enum-told .given .1) (late-expM binary64 (a .rows) (now (a .a))) (omega (arith, s .small)) (s .room) (s .long) (s .outputs .0) refl (copy1 .ensures) (x .ensures) (d .ensures)
+    (x .result) (told .enum-told .given .1) (late-expM binary64 (a .rows) (now (a .a))) (omega (arith, s .small)) (s .room) (s .long) (s .outputs .0) refl (copy1 .ensures) (x .ensures) (d .ensures)
 
 pub expm-with-spec : {M : Type 1} → statement M
 expm-with-spec =
     tie.close
     (tie.spec
-    ask-expm-requires
-    enum-known-why
-    refused-requires
-    enum-told
+    (λ c κs. search needs)
+    (λ c. search needs)
+    (λ c κs. search needs)
+    (λ c. search needs)
     copy-in-requires
     expm-in-requires
     deliver-requires
     returns
-    same-length
-    same-length-2
+    (λ c. search needs)
+    (λ c. search needs)
     returns-2)

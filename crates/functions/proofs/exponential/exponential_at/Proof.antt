@@ -6,33 +6,25 @@ use borrow.Author.Needs.{needs}
 use Rattle.functions.proofs.exponential.exponential_at.Statement.{statement}
 use Rattle.functions.proofs.exponential.exponential_at.Tie as tie
 
-pivot-room-requires : tie.Need-pivot-room-requires
-pivot-room-requires c κs = search needs
-
-array-borrow-prefix-pivots : tie.Need-array-borrow-prefix-pivots
-array-borrow-prefix-pivots c = search needs
-
 slice-aggregate-exponential-in : tie.Need-slice-aggregate-exponential-in
-slice-aggregate-exponential-in c = let s = c .before .before .before .before in sym (length-take-le _ _ (omega (arith, s .pre .0 .order, c .before .before .pivot-room .ensures)))
+slice-aggregate-exponential-in c =
+    let pivot-room : tie.After-pivot-room = search in
+    let s : tie.Start = search in
+    sym (length-take-le _ _ (omega (arith, s .pre .0 .order, pivot-room .pivot-room .ensures)))
 
 exponential-in-requires : tie.Need-exponential-in-requires
 exponential-in-requires c κs =
-    let s = c .before .before .before .before in
-    (s .pre .0, (omega (arith, s .pre .1), length-take-le _ _ (omega (arith, s .pre .0 .order, c .before .before .pivot-room .ensures))))
-
-same-length : tie.Need-same-length
-same-length c = search needs
-
-returns : tie.Need-returns
-returns c = search needs
+    let pivot-room : tie.After-pivot-room = search in
+    let s : tie.Start = search in
+    (s .pre .0, (omega (arith, s .pre .1), length-take-le _ _ (omega (arith, s .pre .0 .order, pivot-room .pivot-room .ensures))))
 
 pub exponential-at-spec : {M : Type 1} → statement M
 exponential-at-spec =
     tie.close
     (tie.spec
-    pivot-room-requires
-    array-borrow-prefix-pivots
+    (λ c κs. search needs)
+    (λ c. search needs)
     slice-aggregate-exponential-in
     exponential-in-requires
-    same-length
-    returns)
+    (λ c. search needs)
+    (λ c. search needs))

@@ -14,36 +14,27 @@ few k h =
     let q : 26 - k ≤ 26 = omega arith in
     mul-le-mul p q
 
-sub-of-small : tie.Need-sub-of-small
-sub-of-small c = search needs
-
-of-small-requires : tie.Need-of-small-requires
-of-small-requires c κs = search needs
-
-add-of-small : tie.Need-add-of-small
-add-of-small c = search needs
-
-sub-of-small-2 : tie.Need-sub-of-small-2
-sub-of-small-2 c = search needs
-
 mul-of-small : tie.Need-mul-of-small
-mul-of-small c = omega (arith, few (c .before .args .k) (c .before .pre))
+mul-of-small c = let s : tie.Start = search in omega (arith, few (s .args .k) (s .pre))
 
 of-small-requires-2 : tie.Need-of-small-requires-2
-of-small-requires-2 c κs = omega (arith, few (c .before .args .k) (c .before .pre))
+of-small-requires-2 c κs = let s : tie.Start = search in omega (arith, few (s .args .k) (s .pre))
 
 returns : tie.Need-returns
 unfolding nextCoefficient
-returns c = rw (c .of-small2 .ensures, c .before .of-small .ensures, add-one)
+returns c =
+    let of-small2 : tie.After-of-small2 = search in
+    let of-small : tie.After-of-small = search in
+    rw (of-small2 .of-small2 .ensures, of-small .of-small .ensures, add-one)
 
 pub next-coefficient-spec : {M : Type 1} → statement M
 next-coefficient-spec =
     tie.close
     (tie.spec
-    sub-of-small
-    of-small-requires
-    add-of-small
-    sub-of-small-2
+    (λ c. search needs)
+    (λ c κs. search needs)
+    (λ c. search needs)
+    (λ c. search needs)
     mul-of-small
     of-small-requires-2
     returns)

@@ -18,21 +18,10 @@ Inv-loop w₀ n c₀ k₀ w c k = (k ≤ 14) × (c ≡ coefficient binary64 k) �
 abbrev μ-loop : tie.MeasureT-loop
 μ-loop w₀ n c₀ k₀ w c k = 14 - k
 
-identity-requires : tie.Need-identity-requires Inv-loop μ-loop
-identity-requires c κs = search needs
-
-zero-requires : tie.Need-zero-requires Inv-loop μ-loop
-zero-requires c κs = search needs
-
-zero-requires-2 : tie.Need-zero-requires-2 Inv-loop μ-loop
-zero-requires-2 c κs = search needs
-
 loop-holds : tie.Need-loop-holds Inv-loop μ-loop
 loop-holds c =
-    let zero2 = c .before .before in
-    let zero1 = zero2 .before .before .before .before in
-    let identity1 = zero1 .before .before .before .before in
-    let s = identity1 .before .before .before in
+    let (zero2, zero1, identity1, s) :
+    tie.After-zero2 Inv-loop μ-loop × tie.After-zero Inv-loop μ-loop × tie.After-identity Inv-loop μ-loop × tie.Start Inv-loop μ-loop = search in
     let a = s .args in
     let H = sums-none binary64 (a .n) (a .w .now) (s .pre) (identity1 .identity .last .0) (zero1 .zero .last .0) (zero2 .zero2 .last .0) (identity1 .identity .ensures) (zero1 .zero .ensures) (zero2 .zero2 .ensures) in (
       omega arith,
@@ -44,36 +33,19 @@ loop-holds c =
 accumulate-requires : tie.Need-accumulate-requires Inv-loop μ-loop
 accumulate-requires c κs = (omega arith, (omega arith, omega arith, refl))
 
-flip-requires : tie.Need-flip-requires Inv-loop μ-loop
-flip-requires c κs = search needs
-
 accumulate-requires-2 : tie.Need-accumulate-requires-2 Inv-loop μ-loop
 accumulate-requires-2 c κs = (omega arith, (omega arith, omega arith, refl))
 
-raise-requires : tie.Need-raise-requires Inv-loop μ-loop
-raise-requires c κs = omega arith
-
-next-coefficient-requires : tie.Need-next-coefficient-requires Inv-loop μ-loop
-next-coefficient-requires c κs = search needs
-
-add-k : tie.Need-add-k Inv-loop μ-loop
-add-k c = omega arith
-
-loop-less : tie.Need-loop-less Inv-loop μ-loop
-loop-less c = omega arith
-
 loop-again : tie.Need-loop-again Inv-loop μ-loop
 loop-again c =
-    let raise1 = c .before .before .before in
-    let second = raise1 .before .before .before .before in
-    let flip1 = second .before in
-    let first = flip1 .before .before .before .before in
-    let at-loop = first .before .before .before in
+    let (next, raise1, second, flip1, first, at-loop, zero2, s) :
+    tie.After-next-coefficient Inv-loop μ-loop × tie.After-raise Inv-loop μ-loop × tie.After-accumulate2 Inv-loop μ-loop × tie.After-flip Inv-loop μ-loop
+    × tie.After-accumulate Inv-loop μ-loop × tie.At-loop Inv-loop μ-loop × tie.After-zero2 Inv-loop μ-loop × tie.Start Inv-loop μ-loop = search in
     let l = at-loop .loop in
-    let w₀ = at-loop .before .before .before .zero2 .last .0 in
-    let n = at-loop .before .before .before .before .before .before .before .before .before .before .before .before .before .before .args .n in (
+    let w₀ = zero2 .zero2 .last .0 in
+    let n = s .args .n in (
       omega arith,
-      c .next-coefficient .ensures ∙ ap (nextCoefficient binary64 (l .k)) (l .inv .1) ∙ sym (coefficient-more binary64 (l .k)),
+      next .next-coefficient .ensures ∙ ap (nextCoefficient binary64 (l .k)) (l .inv .1) ∙ sym (coefficient-more binary64 (l .k)),
       sums-more binary64 n w₀ (l .inv .3) (slot n w₀ 0) (l .k) (l .w) (first .accumulate .last .0) (second .accumulate2 .last .0) (raise1 .raise .last .0) (l .c) (flip1 .flip .result)
           (l .inv .2) (l .inv .1) (flip1 .flip .ensures) (first .accumulate .ensures) (second .accumulate2 .ensures) (raise1 .raise .ensures),
       l .inv .3,
@@ -81,22 +53,20 @@ loop-again c =
 
 same-length : tie.Need-same-length Inv-loop μ-loop
 same-length c =
-    let l = c .before .loop in
-    let zero2 = c .before .before .before .before in
-    let zero1 = zero2 .before .before .before .before in
-    let identity1 = zero1 .before .before .before .before in
-    let s = identity1 .before .before .before in
+    let (head, zero2, zero1, identity1, s) :
+    tie.At-loop Inv-loop μ-loop × tie.After-zero2 Inv-loop μ-loop × tie.After-zero Inv-loop μ-loop × tie.After-identity Inv-loop μ-loop
+    × tie.Start Inv-loop μ-loop = search in
+    let l = head .loop in
     let a = s .args in
     let H = sums-none binary64 (a .n) (a .w .now) (s .pre) (identity1 .identity .last .0) (zero1 .zero .last .0) (zero2 .zero2 .last .0) (identity1 .identity .ensures) (zero1 .zero .ensures) (zero2 .zero2 .ensures) in
     l .inv .2 .only .long ∙ H .only .long
 
 returns : tie.Need-returns Inv-loop μ-loop
 returns c =
-    let l = c .before .loop in
-    let zero2 = c .before .before .before .before in
-    let zero1 = zero2 .before .before .before .before in
-    let identity1 = zero1 .before .before .before .before in
-    let s = identity1 .before .before .before in
+    let (head, zero2, zero1, identity1, s) :
+    tie.At-loop Inv-loop μ-loop × tie.After-zero2 Inv-loop μ-loop × tie.After-zero Inv-loop μ-loop × tie.After-identity Inv-loop μ-loop
+    × tie.Start Inv-loop μ-loop = search in
+    let l = head .loop in
     let a = s .args in
     let H = sums-none binary64 (a .n) (a .w .now) (s .pre) (identity1 .identity .last .0) (zero1 .zero .last .0) (zero2 .zero2 .last .0) (identity1 .identity .ensures) (zero1 .zero .ensures) (zero2 .zero2 .ensures) in
     let e : l .k ≡ 14 = omega arith in
@@ -108,17 +78,17 @@ pade-sums-spec =
     (tie.spec
     Inv-loop
     μ-loop
-    identity-requires
-    zero-requires
-    zero-requires-2
+    (λ c κs. search needs)
+    (λ c κs. search needs)
+    (λ c κs. search needs)
     loop-holds
     accumulate-requires
-    flip-requires
+    (λ c κs. search needs)
     accumulate-requires-2
-    raise-requires
-    next-coefficient-requires
-    add-k
-    loop-less
+    (λ c κs. omega arith)
+    (λ c κs. search needs)
+    (λ c. omega arith)
+    (λ c. omega arith)
     loop-again
     same-length
     returns)

@@ -19,25 +19,14 @@ abbrev μ-loop : tie.MeasureT-loop
 
 loop-holds : tie.Need-loop-holds Inv-loop μ-loop
 loop-holds c =
-    let s = c .before .before in
+    let s : tie.Start Inv-loop μ-loop = search in
     let a = s .args in
     (omega arith, s .pre .3, rows-none (a .n) (quarterRow (a .n) (a .c) (a .b .now)) (a .out .now))
 
-quarter-row-requires : tie.Need-quarter-row-requires Inv-loop μ-loop
-quarter-row-requires c κs = search needs
-
-add-i : tie.Need-add-i Inv-loop μ-loop
-add-i c = search needs
-
-loop-less : tie.Need-loop-less Inv-loop μ-loop
-loop-less c = search needs
-
 loop-again : tie.Need-loop-again Inv-loop μ-loop
 loop-again c =
-    let row = c .before .before in
-    let turn = row .before .before in
-    let l = turn .before .loop in
-    let s = turn .before .before .before .before in
+    let (row, head, s) : tie.After-quarter-row Inv-loop μ-loop × tie.At-loop Inv-loop μ-loop × tie.Start Inv-loop μ-loop = search in
+    let l = head .loop in
     let a = s .args in
     let F = quarterRow (a .n) (a .c) (a .b .now) in
     let e =
@@ -46,14 +35,12 @@ loop-again c =
     ∙ rows-more (a .n) F (a .out .now) (F (l .i)) (l .i) (λ k h. refl) in
     (omega arith, ap length e ∙ length-rowsTo (a .n) F (a .out .now) (l .i + 1) ∙ s .pre .3, e)
 
-same-length : tie.Need-same-length Inv-loop μ-loop
-same-length c = omega arith
-
 returns : tie.Need-returns Inv-loop μ-loop
 unfolding quarter
 returns c =
-    let l = c .before .loop in
-    let s = c .before .before .before .before in
+    let head : tie.At-loop Inv-loop μ-loop = search in
+    let s : tie.Start Inv-loop μ-loop = search in
+    let l = head .loop in
     let a = s .args in
     let e : l .i ≡ a .n = omega arith in
     l .inv .2 ∙ ap (rowsTo (a .n) (quarterRow (a .n) (a .c) (a .b .now)) (a .out .now)) e ∙ rows-all (a .n) (quarterRow (a .n) (a .c) (a .b .now)) (a .out .now) (a .n) (s .pre .3)
@@ -65,9 +52,9 @@ copy-quarter-spec =
     Inv-loop
     μ-loop
     loop-holds
-    quarter-row-requires
-    add-i
-    loop-less
+    (λ c κs. search needs)
+    (λ c. search needs)
+    (λ c. search needs)
     loop-again
-    same-length
+    (λ c. omega arith)
     returns)

@@ -12,8 +12,6 @@ use Rattle.arithmetic.proofs.PatchLaws.{length-rowTo, row-none, row-more}
 use Rattle.functions.specs.Exponential.{quarterRow}
 use Rattle.functions.proofs.frechet.quarter_row.Statement.{statement}
 use Rattle.functions.proofs.frechet.quarter_row.Tie as tie
-use Rattle.functions.proofs.frechet.quarter_row.Reads as reads
-use Rattle.functions.proofs.frechet.quarter_row.Lts as lts
 
 abbrev Inv-loop : tie.InvT-loop
 Inv-loop b n c i out₀ j₀ out j = (j ≤ n) × (out ≡ rowTo n i (quarterRow n c b i) out₀ j)
@@ -25,78 +23,74 @@ inside : (n c i j : ℕ) → i < n → c ≤ n → j < n → i * (n + n) + (c + 
 inside n c i j p q r = index-lt (omega arith) (omega arith)
 
 -- the places that are read and written
-read-at : (l : lts.In-loop reads.Pre reads.Post Inv-loop μ-loop)
-    → l .before .before .args .i * (l .before .before .args .n + l .before .before .args .n) + (l .before .before .args .c + l .before .loop .j)
-    < (l .before .before .args .n + l .before .before .args .n) * (l .before .before .args .n + l .before .before .args .n)
+read-at : (l : tie.In-loop Inv-loop μ-loop) →
+    let s : tie.Start Inv-loop μ-loop = search in
+    s .args .i * (s .args .n + s .args .n) + (s .args .c + l .before .loop .j)
+    < (s .args .n + s .args .n) * (s .args .n + s .args .n)
 read-at l =
-    let s = l .before .before in
+    let s : tie.Start Inv-loop μ-loop = search in
     inside (s .args .n) (s .args .c) (s .args .i) (l .before .loop .j) (s .pre .0) (s .pre .2) (omega arith)
 
-write-at : (l : lts.In-loop reads.Pre reads.Post Inv-loop μ-loop)
-    → l .before .before .args .i * l .before .before .args .n + l .before .loop .j < l .before .before .args .n * l .before .before .args .n
-write-at l = index-lt (l .before .before .pre .0) (omega arith)
+write-at : (l : tie.In-loop Inv-loop μ-loop) →
+    let s : tie.Start Inv-loop μ-loop = search in
+    s .args .i * s .args .n + l .before .loop .j < s .args .n * s .args .n
+write-at l = let s : tie.Start Inv-loop μ-loop = search in index-lt (s .pre .0) (omega arith)
 
 loop-holds : tie.Need-loop-holds Inv-loop μ-loop
-loop-holds c = (omega arith, row-none (c .args .n) (c .args .i) (quarterRow (c .args .n) (c .args .c) (c .args .b .now) (c .args .i)) (c .args .out .now))
-
-add-out : tie.Need-add-out Inv-loop μ-loop
-add-out c = omega arith
+loop-holds c =
+    let s : tie.Start Inv-loop μ-loop = search in
+    (omega arith, row-none (s .args .n) (s .args .i) (quarterRow (s .args .n) (s .args .c) (s .args .b .now) (s .args .i)) (s .args .out .now))
 
 mul-out : tie.Need-mul-out Inv-loop μ-loop
-mul-out c = omega (arith, read-at c)
-
-add-out-2 : tie.Need-add-out-2 Inv-loop μ-loop
-add-out-2 c = omega arith
+mul-out c = let turn : tie.In-loop Inv-loop μ-loop = search in omega (arith, read-at turn)
 
 add-out-3 : tie.Need-add-out-3 Inv-loop μ-loop
-add-out-3 c = omega (arith, read-at c)
+add-out-3 c = let turn : tie.In-loop Inv-loop μ-loop = search in omega (arith, read-at turn)
 
 mul-out-2 : tie.Need-mul-out-2 Inv-loop μ-loop
-mul-out-2 c = omega (arith, read-at c)
+mul-out-2 c = let turn : tie.In-loop Inv-loop μ-loop = search in omega (arith, read-at turn)
 
 shared-slice-read-out : tie.Need-shared-slice-read-out Inv-loop μ-loop
-shared-slice-read-out c = omega (arith, read-at (c .before))
+shared-slice-read-out c = let turn : tie.In-loop Inv-loop μ-loop = search in omega (arith, read-at turn)
 
 mul-out-3 : tie.Need-mul-out-3 Inv-loop μ-loop
-mul-out-3 c = omega (arith, write-at (c .before))
+mul-out-3 c = let turn : tie.In-loop Inv-loop μ-loop = search in omega (arith, write-at turn)
 
 add-out-4 : tie.Need-add-out-4 Inv-loop μ-loop
-add-out-4 c = omega (arith, write-at (c .before))
+add-out-4 c = let turn : tie.In-loop Inv-loop μ-loop = search in omega (arith, write-at turn)
 
 mul-out-4 : tie.Need-mul-out-4 Inv-loop μ-loop
-mul-out-4 c = omega (arith, write-at (c .before))
+mul-out-4 c = let turn : tie.In-loop Inv-loop μ-loop = search in omega (arith, write-at turn)
 
 slice-write-out : tie.Need-slice-write-out Inv-loop μ-loop
 slice-write-out c =
-    let l = c .before .before .loop in
-    let s = c .before .before .before in
-    omega (arith, write-at (c .before), ap length (l .inv .1), length-rowTo (s .args .n) (s .args .i) (quarterRow (s .args .n) (s .args .c) (s .args .b .now) (s .args .i)) (s .args .out .now) (l .j))
-
-add-j : tie.Need-add-j Inv-loop μ-loop
-add-j c = omega arith
-
-loop-less : tie.Need-loop-less Inv-loop μ-loop
-loop-less c = omega arith
+    let (turn, head, s) : tie.In-loop Inv-loop μ-loop × tie.At-loop Inv-loop μ-loop × tie.Start Inv-loop μ-loop = search in
+    let l = head .loop in
+    omega (arith, write-at turn, ap length (l .inv .1), length-rowTo (s .args .n) (s .args .i) (quarterRow (s .args .n) (s .args .c) (s .args .b .now) (s .args .i)) (s .args .out .now) (l .j))
 
 loop-again : tie.Need-loop-again Inv-loop μ-loop
 loop-again c =
-    let l = c .before .before .loop in
-    let s = c .before .before .before in
+    let (turn, head, s) : tie.In-loop Inv-loop μ-loop × tie.At-loop Inv-loop μ-loop × tie.Start Inv-loop μ-loop = search in
+    let l = head .loop in
     let a = s .args in
     let h = quarterRow (a .n) (a .c) (a .b .now) (a .i) in
-    (omega arith, unfold quarterRow at in (ap (λ (x : List Float). set x (a .i * a .n + l .j) (h (l .j))) (l .inv .1) ∙ row-more (a .n) (a .i) h (a .out .now) (l .j) (omega (arith, write-at (c .before)))))
+    (omega arith, unfold quarterRow at in (ap (λ (x : List Float). set x (a .i * a .n + l .j) (h (l .j))) (l .inv .1) ∙ row-more (a .n) (a .i) h (a .out .now) (l .j) (omega (arith, write-at turn))))
 
 same-length : tie.Need-same-length Inv-loop μ-loop
 same-length c =
-    let l = c .before .loop in
-    let a = c .before .before .args in
+    let head : tie.At-loop Inv-loop μ-loop = search in
+    let s : tie.Start Inv-loop μ-loop = search in
+    let l = head .loop in
+    let a = s .args in
     ap length (l .inv .1) ∙ length-rowTo (a .n) (a .i) (quarterRow (a .n) (a .c) (a .b .now) (a .i)) (a .out .now) (l .j)
 
 returns : tie.Need-returns Inv-loop μ-loop
 unfolding withRow
 returns c =
-    let l = c .before .loop in
-    let a = c .before .before .args in
+    let head : tie.At-loop Inv-loop μ-loop = search in
+    let s : tie.Start Inv-loop μ-loop = search in
+    let l = head .loop in
+    let a = s .args in
     let e : l .j ≡ a .n = omega arith in
     l .inv .1 ∙ ap (rowTo (a .n) (a .i) (quarterRow (a .n) (a .c) (a .b .now) (a .i)) (a .out .now)) e
 
@@ -107,9 +101,9 @@ quarter-row-spec =
     Inv-loop
     μ-loop
     loop-holds
-    add-out
+    (λ c. omega arith)
     mul-out
-    add-out-2
+    (λ c. omega arith)
     add-out-3
     mul-out-2
     shared-slice-read-out
@@ -117,8 +111,8 @@ quarter-row-spec =
     add-out-4
     mul-out-4
     slice-write-out
-    add-j
-    loop-less
+    (λ c. omega arith)
+    (λ c. omega arith)
     loop-again
     same-length
     returns)

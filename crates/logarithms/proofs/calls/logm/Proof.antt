@@ -4,17 +4,9 @@ use borrow.Author.Needs.{needs}
 use Rattle.logarithms.proofs.calls.logm.Statement.{statement}
 use Rattle.logarithms.proofs.calls.logm.Tie as tie
 
-logm-with-requires : tie.Need-logm-with-requires
-logm-with-requires c κs = search needs
-
-same-length : tie.Need-same-length
-same-length c = search needs
-
-same-length-2 : tie.Need-same-length-2
-same-length-2 c = search needs
-
 returns : tie.Need-returns
-returns c = clearing-one (c .before .before .before .before .logm-with .ensures)
+returns c = let logm-with : tie.After-logm-with = search in clearing-one (logm-with .logm-with .ensures)
 
 pub logm-spec : {M : Type 1} → statement M
-logm-spec = tie.close (tie.spec logm-with-requires same-length same-length-2 returns)
+logm-spec =
+    tie.close (tie.spec (λ c κs. search needs) (λ c. search needs) (λ c. search needs) returns)

@@ -5,50 +5,29 @@ use borrow.Author.Needs.{needs}
 use Rattle.logarithms.proofs.log_derivative.frechet_logm_in.Statement.{statement}
 use Rattle.logarithms.proofs.log_derivative.frechet_logm_in.Tie as tie
 
-copy-requires : tie.Need-copy-requires
-copy-requires c κs = search needs
-
-logm-in-requires : tie.Need-logm-in-requires
-logm-in-requires c κs = search needs
-
-enum-told : tie.Need-enum-told
-enum-told c = search needs
-
-second-logarithm-requires : tie.Need-second-logarithm-requires
-second-logarithm-requires c κs = search needs
-
-enum-known-outcome : tie.Need-enum-known-outcome
-enum-known-outcome c = search needs
-
-same-length : tie.Need-same-length
-same-length c = search needs
-
 returns : tie.Need-returns
 returns c =
-    let s = c .before .before .before .before .before .before .before .before .before .before .before .before .before .before .before in
-    let l = c .before .before .before .before .before .before .before .before .logm-in in
-    let d = c .before .before .second-logarithm in
-    frechet-follows binary64 (s .args .n) (s .args .w .now) (s .pre) (c .before .before .before .before .before .before .before .before .before .before .before .before .copy .last .0) (l .last .0) (l .result) (c .before .before .before .before .before .before .before .before .before .before .before .before .copy .ensures) (l .ensures) (c .before .before .before .before .enum-told .given .0 .0) (d .result) (d .last .0) (c .before .before .before .before .enum-told .given .1) (d .ensures)
-
-same-length-2 : tie.Need-same-length-2
-same-length-2 c = search needs
+    let (second, told, logm-in, copy, s) : tie.After-second-logarithm × tie.After-enum-told × tie.After-logm-in × tie.After-copy × tie.Start = search in
+    let l = logm-in .logm-in in
+    let d = second .second-logarithm in
+    frechet-follows binary64 (s .args .n) (s .args .w .now) (s .pre) (copy .copy .last .0) (l .last .0) (l .result) (copy .copy .ensures) (l .ensures) (told .enum-told .given .0 .0) (d .result) (d .last .0) (told .enum-told .given .1) (d .ensures)
 
 returns-2 : tie.Need-returns-2
 returns-2 c =
-    let s = c .before .before .before .before .before .before .before .before .before .before .before .before in
-    let l = c .before .before .before .before .before .logm-in in
-    frechet-refused binary64 (s .args .n) (s .args .w .now) (s .pre) (c .before .before .before .before .before .before .before .before .before .copy .last .0) (l .last .0) (l .result) (c .before .before .before .before .before .before .before .before .before .copy .ensures) (l .ensures) (c .before .outcome .given .0 .0) (c .before .outcome .given .1)
+    let (outcome, logm-in, copy, s) : tie.After-outcome × tie.After-logm-in × tie.After-copy × tie.Start = search in
+    let l = logm-in .logm-in in
+    frechet-refused binary64 (s .args .n) (s .args .w .now) (s .pre) (copy .copy .last .0) (l .last .0) (l .result) (copy .copy .ensures) (l .ensures) (outcome .outcome .given .0 .0) (outcome .outcome .given .1)
 
 pub frechet-logm-in-spec : {M : Type 1} → statement M
 frechet-logm-in-spec =
     tie.close
     (tie.spec
-    copy-requires
-    logm-in-requires
-    enum-told
-    second-logarithm-requires
-    enum-known-outcome
-    same-length
+    (λ c κs. search needs)
+    (λ c κs. search needs)
+    (λ c. search needs)
+    (λ c κs. search needs)
+    (λ c. search needs)
+    (λ c. search needs)
     returns
-    same-length-2
+    (λ c. search needs)
     returns-2)

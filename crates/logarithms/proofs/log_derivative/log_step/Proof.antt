@@ -5,12 +5,9 @@ use borrow.Author.Needs.{needs}
 use Rattle.logarithms.proofs.log_derivative.log_step.Statement.{statement}
 use Rattle.logarithms.proofs.log_derivative.log_step.Tie as tie
 
-sqrt-requires : tie.Need-sqrt-requires
-sqrt-requires c κs = search needs
-
 returns : tie.Need-returns
 unfolding ofBits logStep
-returns c = c .sqrt .ensures
+returns c = let sqrt : tie.After-sqrt = search in sqrt .sqrt .ensures
 
 pub log-step-spec : {M : Type 1} → statement M
-log-step-spec = tie.close (tie.spec sqrt-requires returns)
+log-step-spec = tie.close (tie.spec (λ c κs. search needs) returns)

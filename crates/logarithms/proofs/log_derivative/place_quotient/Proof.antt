@@ -5,34 +5,20 @@ use borrow.Author.Needs.{needs}
 use Rattle.logarithms.proofs.log_derivative.place_quotient.Statement.{statement}
 use Rattle.logarithms.proofs.log_derivative.place_quotient.Tie as tie
 
-log-step-requires : tie.Need-log-step-requires
-log-step-requires c κs = search needs
-
-difference-quotient-requires : tie.Need-difference-quotient-requires
-difference-quotient-requires c κs = search needs
-
-copy-requires : tie.Need-copy-requires
-copy-requires c κs = search needs
-
-copy-requires-2 : tie.Need-copy-requires-2
-copy-requires-2 c κs = search needs
-
-same-length : tie.Need-same-length
-same-length c = search needs
-
 returns : tie.Need-returns
 returns c =
-    let s = c .before .before .before .before .before .before .before .before .before .before .before .before .before .before in
-    quotient-placed binary64 (s .args .n) (s .args .w .now) (s .pre) (c .before .before .before .before .before .before .before .before .before .before .difference-quotient .last .0) (c .before .before .before .before .before .before .copy .last .0) (c .before .before .copy2 .last .0) (c .before .before .before .before .before .before .before .before .before .before .before .log-step .result)
-    (c .before .before .before .before .before .before .before .before .before .before .before .log-step .ensures) (c .before .before .before .before .before .before .before .before .before .before .difference-quotient .ensures) (c .before .before .before .before .before .before .copy .ensures) (c .before .before .copy2 .ensures)
+    let (copy2, copy, difference, log-step, s) :
+    tie.After-copy2 × tie.After-copy × tie.After-difference-quotient × tie.After-log-step × tie.Start = search in
+    quotient-placed binary64 (s .args .n) (s .args .w .now) (s .pre) (difference .difference-quotient .last .0) (copy .copy .last .0) (copy2 .copy2 .last .0) (log-step .log-step .result)
+    (log-step .log-step .ensures) (difference .difference-quotient .ensures) (copy .copy .ensures) (copy2 .copy2 .ensures)
 
 pub place-quotient-spec : {M : Type 1} → statement M
 place-quotient-spec =
     tie.close
     (tie.spec
-    log-step-requires
-    difference-quotient-requires
-    copy-requires
-    copy-requires-2
-    same-length
+    (λ c κs. search needs)
+    (λ c κs. search needs)
+    (λ c κs. search needs)
+    (λ c κs. search needs)
+    (λ c. search needs)
     returns)

@@ -23,52 +23,47 @@ abbrev μ-loop : tie.MeasureT-loop
 
 loop-holds : tie.Need-loop-holds Inv-loop μ-loop
 loop-holds c =
-    let s = c .before in
+    let s : tie.Start Inv-loop μ-loop = search in
     let a = s .args in
     (omega arith, refl, passing-none (seriesStep binary64 (a .n) (slot (a .n) (a .w .now) 0)) (seriesIn (a .n)) summing (a .w .now), s .pre)
 
 series-pass-requires : tie.Need-series-pass-requires Inv-loop μ-loop
-series-pass-requires c κs = (record { order = c .before .before .before .before .pre .order; space = omega (arith, c .before .before .loop .inv .1, c .before .before .before .before .pre .space) }, omega (arith, c .before .loop-test .taken))
-
-same-length : tie.Need-same-length Inv-loop μ-loop
-same-length c = search needs
+series-pass-requires c κs =
+    let (turn, head, s) : tie.In-loop Inv-loop μ-loop × tie.At-loop Inv-loop μ-loop × tie.Start Inv-loop μ-loop = search in
+    (record { order = s .pre .order; space = omega (arith, head .loop .inv .1, s .pre .space) }, omega (arith, turn .loop-test .taken))
 
 returns : tie.Need-returns Inv-loop μ-loop
 returns c =
-    let l = c .before .before .before .before .before .before .loop in
-    let a = c .before .before .before .before .before .before .before .before .args in
-    let p = c .before .before .before .series-pass in
+    let (taken1, series-pass, turn, head, s) :
+    tie.Then1 Inv-loop μ-loop × tie.After-series-pass Inv-loop μ-loop × tie.In-loop Inv-loop μ-loop × tie.At-loop Inv-loop μ-loop × tie.Start Inv-loop μ-loop = search in
+    let l = head .loop in
+    let a = s .args in
+    let p = series-pass .series-pass in
     terms-added binary64 (a .n) (a .w .now) (l .inv .3) Stopped (p .last .0) refl
     (passing-stops (seriesStep binary64 (a .n) (slot (a .n) (a .w .now) 0)) (seriesIn (a .n)) summing (a .w .now) (l .w) (p .last .0) (l .k) (tested (p .result)) (l .inv .2)
-    (term-same binary64 (a .n) (a .w .now) (l .inv .3) (l .k) (l .w) (p .last .0) (tested (p .result)) (l .inv .2 .only) (p .ensures)) 59 (c .before .before .before .before .before .loop-test .taken) (ap tested (c .if1 .taken)))
-
-add-k : tie.Need-add-k Inv-loop μ-loop
-add-k c = search needs
-
-loop-less : tie.Need-loop-less Inv-loop μ-loop
-loop-less c = search needs
+    (term-same binary64 (a .n) (a .w .now) (l .inv .3) (l .k) (l .w) (p .last .0) (tested (p .result)) (l .inv .2 .only) (p .ensures)) 59 (turn .loop-test .taken) (ap tested (taken1 .if1 .taken)))
 
 loop-again : tie.Need-loop-again Inv-loop μ-loop
 loop-again c =
-    let l = c .before .before .before .before .before .before .loop in
-    let a = c .before .before .before .before .before .before .before .before .args in
-    let p = c .before .before .before .series-pass in (
-      omega (arith, c .before .before .before .before .before .loop-test .taken),
+    let (left1, series-pass, turn, head, s) :
+    tie.Else1 Inv-loop μ-loop × tie.After-series-pass Inv-loop μ-loop × tie.In-loop Inv-loop μ-loop × tie.At-loop Inv-loop μ-loop × tie.Start Inv-loop μ-loop = search in
+    let l = head .loop in
+    let a = s .args in
+    let p = series-pass .series-pass in (
+      omega (arith, turn .loop-test .taken),
       p .kept .0 ∙ l .inv .1,
       passing-more (seriesStep binary64 (a .n) (slot (a .n) (a .w .now) 0)) (seriesIn (a .n)) summing (a .w .now) (l .w) (p .last .0) (l .k) (tested (p .result)) (l .inv .2)
-          (term-same binary64 (a .n) (a .w .now) (l .inv .3) (l .k) (l .w) (p .last .0) (tested (p .result)) (l .inv .2 .only) (p .ensures)) (ap tested (c .if1 .left)),
+          (term-same binary64 (a .n) (a .w .now) (l .inv .3) (l .k) (l .w) (p .last .0) (tested (p .result)) (l .inv .2 .only) (p .ensures)) (ap tested (left1 .if1 .left)),
       l .inv .3,
     )
 
-same-length-2 : tie.Need-same-length-2 Inv-loop μ-loop
-same-length-2 c = search needs
-
 returns-2 : tie.Need-returns-2 Inv-loop μ-loop
 returns-2 c =
-    let l = c .before .loop in
-    let a = c .before .before .before .args in
+    let (end, head, s) : tie.After-loop Inv-loop μ-loop × tie.At-loop Inv-loop μ-loop × tie.Start Inv-loop μ-loop = search in
+    let l = head .loop in
+    let a = s .args in
     terms-added binary64 (a .n) (a .w .now) (l .inv .3) Running (l .w) refl
-    (passing-out (seriesStep binary64 (a .n) (slot (a .n) (a .w .now) 0)) (seriesIn (a .n)) summing (a .w .now) (l .w) (l .k) 59 (l .inv .2) (l .inv .0) (c .loop-test .left))
+    (passing-out (seriesStep binary64 (a .n) (slot (a .n) (a .w .now) 0)) (seriesIn (a .n)) summing (a .w .now) (l .w) (l .k) 59 (l .inv .2) (l .inv .0) (end .loop-test .left))
 
 pub add-terms-spec : {M : Type 1} → statement M
 add-terms-spec =
@@ -78,10 +73,10 @@ add-terms-spec =
     μ-loop
     loop-holds
     series-pass-requires
-    same-length
+    (λ c. search needs)
     returns
-    add-k
-    loop-less
+    (λ c. search needs)
+    (λ c. search needs)
     loop-again
-    same-length-2
+    (λ c. search needs)
     returns-2)

@@ -6,12 +6,9 @@ use borrow.Author.Needs.{needs}
 use Rattle.logarithms.proofs.logarithm.is_far.Statement.{statement}
 use Rattle.logarithms.proofs.logarithm.is_far.Tie as tie
 
-norm-1-minus-identity-requires : tie.Need-norm-1-minus-identity-requires
-norm-1-minus-identity-requires c κs = search needs
-
 returns : tie.Need-returns
 unfolding ofBits round constant near isFar
-returns c = rw (c .norm-1-minus-identity .ensures)
+returns c = let norm : tie.After-norm-1-minus-identity = search in rw (norm .norm-1-minus-identity .ensures)
 
 pub is-far-spec : {M : Type 1} → statement M
-is-far-spec = tie.close (tie.spec norm-1-minus-identity-requires returns)
+is-far-spec = tie.close (tie.spec (λ c κs. search needs) returns)

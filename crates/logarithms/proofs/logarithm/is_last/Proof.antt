@@ -9,22 +9,17 @@ use Rattle.logarithms.proofs.logarithm.is_last.Statement.{statement}
 use Rattle.logarithms.proofs.logarithm.is_last.Tie as tie
 
 mul-sums-of-squares : tie.Need-mul-sums-of-squares
-mul-sums-of-squares c = omega (arith, square-le (c .before .args .n) (c .before .pre .order))
+mul-sums-of-squares c = let s : tie.Start = search in omega (arith, square-le (s .args .n) (s .pre .order))
 
 sums-of-squares-requires : tie.Need-sums-of-squares-requires
-sums-of-squares-requires c κs = omega (arith, square-le (c .before .args .n) (c .before .pre .order))
-
-sqrt-requires : tie.Need-sqrt-requires
-sqrt-requires c κs = search needs
-
-sqrt-requires-2 : tie.Need-sqrt-requires-2
-sqrt-requires-2 c κs = search needs
+sums-of-squares-requires c κs = let s : tie.Start = search in omega (arith, square-le (s .args .n) (s .pre .order))
 
 returns : tie.Need-returns
 unfolding ofBits frobenius slot
 returns c =
-    let s = c .before .before .sums-of-squares .ensures in
-    rw (c .sqrt2 .ensures, c .before .sqrt .ensures, s .0, s .1)
+    let (sqrt2, sqrt, sums-of-squares) : tie.After-sqrt2 × tie.After-sqrt × tie.After-sums-of-squares = search in
+    let s = sums-of-squares .sums-of-squares .ensures in
+    rw (sqrt2 .sqrt2 .ensures, sqrt .sqrt .ensures, s .0, s .1)
 
 pub is-last-spec : {M : Type 1} → statement M
 is-last-spec =
@@ -32,6 +27,6 @@ is-last-spec =
     (tie.spec
     mul-sums-of-squares
     sums-of-squares-requires
-    sqrt-requires
-    sqrt-requires-2
+    (λ c κs. search needs)
+    (λ c κs. search needs)
     returns)

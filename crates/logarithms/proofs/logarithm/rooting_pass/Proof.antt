@@ -6,56 +6,37 @@ use borrow.Author.Needs.{needs}
 use Rattle.logarithms.proofs.logarithm.rooting_pass.Statement.{statement}
 use Rattle.logarithms.proofs.logarithm.rooting_pass.Tie as tie
 
-is-far-requires : tie.Need-is-far-requires
-is-far-requires c κs = search needs
-
-newton-root-requires : tie.Need-newton-root-requires
-newton-root-requires c κs = search needs
-
-answers-requires : tie.Need-answers-requires
-answers-requires c κs = search needs
-
-copy-requires : tie.Need-copy-requires
-copy-requires c κs = search needs
-
-same-length : tie.Need-same-length
-same-length c = search needs
-
 returns : tie.Need-returns
 returns c =
-    let s = c .before .before .before .before .before .before .before .before .before .before .before .before .before .before in
-    let p = c .before .before .before .before .before .before .before .before .newton-root in
-    far-rooted binary64 (s .args .n) (s .args .w .now) (s .pre) (p .last .0) (p .result) (sym (c .before .before .before .before .before .before .before .before .before .before .before .is-far .ensures) ∙ c .before .before .before .before .before .before .before .before .before .before .if1 .taken) (p .ensures) (c .before .before .copy .last .0)
-    (sym (c .before .before .before .before .before .answers .ensures) ∙ c .before .before .before .before .if2 .taken) (c .before .before .copy .ensures)
-
-same-length-2 : tie.Need-same-length-2
-same-length-2 c = search needs
+    let (copy, taken2, answers, newton-root, taken1, is-far, s) :
+    tie.After-copy × tie.Then2 × tie.After-answers × tie.After-newton-root × tie.Then1 × tie.After-is-far × tie.Start = search in
+    let p = newton-root .newton-root in
+    far-rooted binary64 (s .args .n) (s .args .w .now) (s .pre) (p .last .0) (p .result) (sym (is-far .is-far .ensures) ∙ taken1 .if1 .taken) (p .ensures) (copy .copy .last .0)
+    (sym (answers .answers .ensures) ∙ taken2 .if2 .taken) (copy .copy .ensures)
 
 returns-2 : tie.Need-returns-2
 returns-2 c =
-    let s = c .before .before .before .before .before .before .before .before .before .before in
-    let p = c .before .before .before .before .newton-root in
-    far-failed binary64 (s .args .n) (s .args .w .now) (s .pre) (p .last .0) (p .result) (sym (c .before .before .before .before .before .before .before .is-far .ensures) ∙ c .before .before .before .before .before .before .if1 .taken) (p .ensures) (sym (c .before .answers .ensures) ∙ c .if2 .left)
-
-same-length-3 : tie.Need-same-length-3
-same-length-3 c = search needs
+    let (left2, answers, newton-root, taken1, is-far, s) :
+    tie.Else2 × tie.After-answers × tie.After-newton-root × tie.Then1 × tie.After-is-far × tie.Start = search in
+    let p = newton-root .newton-root in
+    far-failed binary64 (s .args .n) (s .args .w .now) (s .pre) (p .last .0) (p .result) (sym (is-far .is-far .ensures) ∙ taken1 .if1 .taken) (p .ensures) (sym (answers .answers .ensures) ∙ left2 .if2 .left)
 
 returns-3 : tie.Need-returns-3
 returns-3 c =
-    let s = c .before .before .before .before in
-    near-stopped binary64 (s .args .n) (s .args .w .now) (s .pre) (sym (c .before .is-far .ensures) ∙ c .if1 .left)
+    let (left1, is-far, s) : tie.Else1 × tie.After-is-far × tie.Start = search in
+    near-stopped binary64 (s .args .n) (s .args .w .now) (s .pre) (sym (is-far .is-far .ensures) ∙ left1 .if1 .left)
 
 pub rooting-pass-spec : {M : Type 1} → statement M
 rooting-pass-spec =
     tie.close
     (tie.spec
-    is-far-requires
-    newton-root-requires
-    answers-requires
-    copy-requires
-    same-length
+    (λ c κs. search needs)
+    (λ c κs. search needs)
+    (λ c κs. search needs)
+    (λ c κs. search needs)
+    (λ c. search needs)
     returns
-    same-length-2
+    (λ c. search needs)
     returns-2
-    same-length-3
+    (λ c. search needs)
     returns-3)

@@ -7,20 +7,18 @@ use borrow.Author.Needs.{needs}
 use Rattle.logarithms.proofs.logarithm.series_coefficient.Statement.{statement}
 use Rattle.logarithms.proofs.logarithm.series_coefficient.Tie as tie
 
-of-small-requires : tie.Need-of-small-requires
-of-small-requires c κs = search needs
-
-of-small-requires-2 : tie.Need-of-small-requires-2
-of-small-requires-2 c κs = search needs
-
 returns : tie.Need-returns
 unfolding ofBits neg seriesCoefficient
-returns c = rw (c .of-small .ensures, eq-eqb (c .before .before .args .k % 2) 0 (c .before .if1 .taken))
+returns c =
+    let (of-small, taken1, s) : tie.After-of-small × tie.Then1 × tie.Start = search in
+    rw (of-small .of-small .ensures, eq-eqb (s .args .k % 2) 0 (taken1 .if1 .taken))
 
 returns-2 : tie.Need-returns-2
 unfolding ofBits neg seriesCoefficient
-returns-2 c = rw (c .of-small2 .ensures, ne-eqb (c .before .before .args .k % 2) 0 (c .before .if1 .left))
+returns-2 c =
+    let (of-small2, left1, s) : tie.After-of-small2 × tie.Else1 × tie.Start = search in
+    rw (of-small2 .of-small2 .ensures, ne-eqb (s .args .k % 2) 0 (left1 .if1 .left))
 
 pub series-coefficient-spec : {M : Type 1} → statement M
 series-coefficient-spec =
-    tie.close (tie.spec of-small-requires of-small-requires-2 returns returns-2)
+    tie.close (tie.spec (λ c κs. search needs) (λ c κs. search needs) returns returns-2)

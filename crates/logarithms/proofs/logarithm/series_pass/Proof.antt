@@ -5,47 +5,24 @@ use borrow.Author.Needs.{needs}
 use Rattle.logarithms.proofs.logarithm.series_pass.Statement.{statement}
 use Rattle.logarithms.proofs.logarithm.series_pass.Tie as tie
 
-mult-requires : tie.Need-mult-requires
-mult-requires c κs = search needs
-
-copy-requires : tie.Need-copy-requires
-copy-requires c κs = search needs
-
-add-series-coefficient : tie.Need-add-series-coefficient
-add-series-coefficient c = search needs
-
-series-coefficient-requires : tie.Need-series-coefficient-requires
-series-coefficient-requires c κs = search needs
-
-times-requires : tie.Need-times-requires
-times-requires c κs = search needs
-
-add-requires : tie.Need-add-requires
-add-requires c κs = search needs
-
-is-last-requires : tie.Need-is-last-requires
-is-last-requires c κs = search needs
-
-same-length : tie.Need-same-length
-same-length c = search needs
-
 returns : tie.Need-returns
 returns c =
-    let s = c .before .before .before .before .before .before .before .before .before .before .before .before .before .before .before .before .before .before .before .before in
+    let (is-last, add, times, series, copy, mult, s) :
+    tie.After-is-last × tie.After-add × tie.After-times × tie.After-series-coefficient × tie.After-copy × tie.After-mult × tie.Start = search in
     let a = s .args in
-    term-added binary64 (a .n) (a .w .now) (s .pre .0) (a .k) (c .before .before .before .before .before .before .before .before .before .before .before .before .before .before .before .before .before .mult .last .0) (c .before .before .before .before .before .before .before .before .before .before .before .before .before .copy .last .0) (c .before .before .before .before .before .before .before .before .times .last .0) (c .before .before .before .before .add .last .0) (c .before .before .before .before .before .before .before .before .before .series-coefficient .result) (c .is-last .result)
-    (c .before .before .before .before .before .before .before .before .before .before .before .before .before .before .before .before .before .mult .ensures) (c .before .before .before .before .before .before .before .before .before .before .before .before .before .copy .ensures) (c .before .before .before .before .before .before .before .before .before .series-coefficient .ensures) (c .before .before .before .before .before .before .before .before .times .ensures) (c .before .before .before .before .add .ensures) (c .is-last .ensures)
+    term-added binary64 (a .n) (a .w .now) (s .pre .0) (a .k) (mult .mult .last .0) (copy .copy .last .0) (times .times .last .0) (add .add .last .0) (series .series-coefficient .result) (is-last .is-last .result)
+    (mult .mult .ensures) (copy .copy .ensures) (series .series-coefficient .ensures) (times .times .ensures) (add .add .ensures) (is-last .is-last .ensures)
 
 pub series-pass-spec : {M : Type 1} → statement M
 series-pass-spec =
     tie.close
     (tie.spec
-    mult-requires
-    copy-requires
-    add-series-coefficient
-    series-coefficient-requires
-    times-requires
-    add-requires
-    is-last-requires
-    same-length
+    (λ c κs. search needs)
+    (λ c κs. search needs)
+    (λ c. search needs)
+    (λ c κs. search needs)
+    (λ c κs. search needs)
+    (λ c κs. search needs)
+    (λ c κs. search needs)
+    (λ c. search needs)
     returns)

@@ -18,67 +18,56 @@ abbrev μ-loop : tie.MeasureT-loop
 
 loop-holds : tie.Need-loop-holds Inv-loop μ-loop
 loop-holds c =
-    let s = c .before in
+    let s : tie.Start Inv-loop μ-loop = search in
     let a = s .args in
     (omega arith, refl, rooting-none binary64 (a .n) (a .w .now), s .pre)
 
 rooting-pass-requires : tie.Need-rooting-pass-requires Inv-loop μ-loop
-rooting-pass-requires c κs = record { order = c .before .before .before .before .pre .order; space = omega (arith, c .before .before .loop .inv .1, c .before .before .before .before .pre .space) }
-
-enum-told : tie.Need-enum-told Inv-loop μ-loop
-enum-told c = search needs
-
-enum-told-2 : tie.Need-enum-told-2 Inv-loop μ-loop
-enum-told-2 c = search needs
-
-same-length : tie.Need-same-length Inv-loop μ-loop
-same-length c = search needs
+rooting-pass-requires c κs =
+    let head : tie.At-loop Inv-loop μ-loop = search in
+    let s : tie.Start Inv-loop μ-loop = search in
+    record { order = s .pre .order; space = omega (arith, head .loop .inv .1, s .pre .space) }
 
 returns : tie.Need-returns Inv-loop μ-loop
 returns c =
-    let l = c .before .before .before .before .before .before .before .loop in
-    let a = c .before .before .before .before .before .before .before .before .before .args in
-    let p = c .before .before .before .before .rooting-pass in
-    rooting-stops binary64 (a .n) (a .w .now) (l .w) (p .last .0) (l .k) (p .result) (l .inv .2) (p .ensures) (c .before .before .before .before .before .before .loop-test .taken) (c .enum-told2 .given .1)
-
-enum-told-3 : tie.Need-enum-told-3 Inv-loop μ-loop
-enum-told-3 c = search needs
-
-same-length-2 : tie.Need-same-length-2 Inv-loop μ-loop
-same-length-2 c = search needs
+    let (told2, rooting-pass, turn, head, s) :
+    tie.After-enum-told2 Inv-loop μ-loop × tie.After-rooting-pass Inv-loop μ-loop × tie.In-loop Inv-loop μ-loop × tie.At-loop Inv-loop μ-loop
+    × tie.Start Inv-loop μ-loop = search in
+    let l = head .loop in
+    let a = s .args in
+    let p = rooting-pass .rooting-pass in
+    rooting-stops binary64 (a .n) (a .w .now) (l .w) (p .last .0) (l .k) (p .result) (l .inv .2) (p .ensures) (turn .loop-test .taken) (told2 .enum-told2 .given .1)
 
 returns-2 : tie.Need-returns-2 Inv-loop μ-loop
 returns-2 c =
-    let l = c .before .before .before .before .before .before .before .loop in
-    let a = c .before .before .before .before .before .before .before .before .before .args in
-    let p = c .before .before .before .before .rooting-pass in
-    rooting-fails binary64 (a .n) (a .w .now) (l .w) (p .last .0) (l .k) (p .result) (l .inv .2) (p .ensures) (c .before .before .before .before .before .before .loop-test .taken) (c .enum-told3 .given .1)
-
-add-k : tie.Need-add-k Inv-loop μ-loop
-add-k c = search needs
-
-loop-less : tie.Need-loop-less Inv-loop μ-loop
-loop-less c = search needs
+    let (told3, rooting-pass, turn, head, s) :
+    tie.After-enum-told3 Inv-loop μ-loop × tie.After-rooting-pass Inv-loop μ-loop × tie.In-loop Inv-loop μ-loop × tie.At-loop Inv-loop μ-loop
+    × tie.Start Inv-loop μ-loop = search in
+    let l = head .loop in
+    let a = s .args in
+    let p = rooting-pass .rooting-pass in
+    rooting-fails binary64 (a .n) (a .w .now) (l .w) (p .last .0) (l .k) (p .result) (l .inv .2) (p .ensures) (turn .loop-test .taken) (told3 .enum-told3 .given .1)
 
 loop-again : tie.Need-loop-again Inv-loop μ-loop
 loop-again c =
-    let l = c .before .before .before .before .before .before .before .loop in
-    let a = c .before .before .before .before .before .before .before .before .before .args in
-    let p = c .before .before .before .before .rooting-pass in (
-      omega (arith, c .before .before .before .before .before .before .loop-test .taken),
+    let (told, rooting-pass, turn, head, s) :
+    tie.After-enum-told Inv-loop μ-loop × tie.After-rooting-pass Inv-loop μ-loop × tie.In-loop Inv-loop μ-loop × tie.At-loop Inv-loop μ-loop
+    × tie.Start Inv-loop μ-loop = search in
+    let l = head .loop in
+    let a = s .args in
+    let p = rooting-pass .rooting-pass in (
+      omega (arith, turn .loop-test .taken),
       p .kept .0 ∙ l .inv .1,
-      rooting-more binary64 (a .n) (a .w .now) (l .w) (p .last .0) (l .k) (p .result) (l .inv .2) (p .ensures) (c .enum-told .given .1),
+      rooting-more binary64 (a .n) (a .w .now) (l .w) (p .last .0) (l .k) (p .result) (l .inv .2) (p .ensures) (told .enum-told .given .1),
       l .inv .3,
     )
 
-same-length-3 : tie.Need-same-length-3 Inv-loop μ-loop
-same-length-3 c = search needs
-
 returns-3 : tie.Need-returns-3 Inv-loop μ-loop
 returns-3 c =
-    let l = c .before .loop in
-    let a = c .before .before .before .args in
-    rooting-out binary64 (a .n) (a .w .now) (l .w) (l .k) (l .inv .2) (l .inv .0) (c .loop-test .left)
+    let (end, head, s) : tie.After-loop Inv-loop μ-loop × tie.At-loop Inv-loop μ-loop × tie.Start Inv-loop μ-loop = search in
+    let l = head .loop in
+    let a = s .args in
+    rooting-out binary64 (a .n) (a .w .now) (l .w) (l .k) (l .inv .2) (l .inv .0) (end .loop-test .left)
 
 pub take-roots-spec : {M : Type 1} → statement M
 take-roots-spec =
@@ -88,15 +77,15 @@ take-roots-spec =
     μ-loop
     loop-holds
     rooting-pass-requires
-    enum-told
-    enum-told-2
-    same-length
+    (λ c. search needs)
+    (λ c. search needs)
+    (λ c. search needs)
     returns
-    enum-told-3
-    same-length-2
+    (λ c. search needs)
+    (λ c. search needs)
     returns-2
-    add-k
-    loop-less
+    (λ c. search needs)
+    (λ c. search needs)
     loop-again
-    same-length-3
+    (λ c. search needs)
     returns-3)

@@ -9,38 +9,27 @@ use borrow.Author.Needs.{needs}
 use Rattle.logarithms.proofs.newton.newton_mean.Statement.{statement}
 use Rattle.logarithms.proofs.newton.newton_mean.Tie as tie
 
-mean-requires : tie.Need-mean-requires
-mean-requires c κs = search needs
-
 mul-sum-of-squared-differences : tie.Need-mul-sum-of-squared-differences
-mul-sum-of-squared-differences c = omega (arith, square-le (c .before .before .before .before .before .before .args .n) (c .before .before .before .before .before .before .pre .order))
+mul-sum-of-squared-differences c = let s : tie.Start = search in omega (arith, square-le (s .args .n) (s .pre .order))
 
 sum-of-squared-differences-requires : tie.Need-sum-of-squared-differences-requires
-sum-of-squared-differences-requires c κs = omega (arith, square-le (c .before .before .before .before .before .before .args .n) (c .before .before .before .before .before .before .pre .order))
-
-copy-requires : tie.Need-copy-requires
-copy-requires c κs = search needs
-
-root-verdict-requires : tie.Need-root-verdict-requires
-root-verdict-requires c κs = search needs
-
-same-length : tie.Need-same-length
-same-length c = search needs
+sum-of-squared-differences-requires c κs = let s : tie.Start = search in omega (arith, square-le (s .args .n) (s .pre .order))
 
 returns : tie.Need-returns
 returns c =
-    let s = c .before .before .before .before .before .before .before .before .before .before .before .before in
-    let d = c .before .before .before .before .before .sum-of-squared-differences in
-    newton-mean-steps binary64 (s .args .n) (s .args .w .now) (s .pre) (c .before .before .before .before .before .before .before .before .before .mean .last .0) (c .before .before .before .copy .last .0) (sqrtOf binary64 (d .result)) (c .root-verdict .result) (c .before .before .before .before .before .before .before .before .before .mean .ensures) (root-of-squares binary64 (s .args .n) (c .before .before .before .before .before .before .before .before .before .mean .last .0) 1 2 (d .result) (d .ensures)) (c .before .before .before .copy .ensures) (c .root-verdict .ensures)
+    let (root-verdict, copy, sum, mean, s) :
+    tie.After-root-verdict × tie.After-copy × tie.After-sum-of-squared-differences × tie.After-mean × tie.Start = search in
+    let d = sum .sum-of-squared-differences in
+    newton-mean-steps binary64 (s .args .n) (s .args .w .now) (s .pre) (mean .mean .last .0) (copy .copy .last .0) (sqrtOf binary64 (d .result)) (root-verdict .root-verdict .result) (mean .mean .ensures) (root-of-squares binary64 (s .args .n) (mean .mean .last .0) 1 2 (d .result) (d .ensures)) (copy .copy .ensures) (root-verdict .root-verdict .ensures)
 
 pub newton-mean-spec : {M : Type 1} → statement M
 newton-mean-spec =
     tie.close
     (tie.spec
-    mean-requires
+    (λ c κs. search needs)
     mul-sum-of-squared-differences
     sum-of-squared-differences-requires
-    copy-requires
-    root-verdict-requires
-    same-length
+    (λ c κs. search needs)
+    (λ c κs. search needs)
+    (λ c. search needs)
     returns)

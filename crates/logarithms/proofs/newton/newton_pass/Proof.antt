@@ -5,55 +5,32 @@ use borrow.Author.Needs.{needs}
 use Rattle.logarithms.proofs.newton.newton_pass.Statement.{statement}
 use Rattle.logarithms.proofs.newton.newton_pass.Tie as tie
 
-copy-requires : tie.Need-copy-requires
-copy-requires c κs = search needs
-
-copy-requires-2 : tie.Need-copy-requires-2
-copy-requires-2 c κs = search needs
-
-divide-slot-requires : tie.Need-divide-slot-requires
-divide-slot-requires c κs = search needs
-
-enum-told : tie.Need-enum-told
-enum-told c = search needs
-
-newton-mean-requires : tie.Need-newton-mean-requires
-newton-mean-requires c κs = search needs
-
-enum-told-2 : tie.Need-enum-told-2
-enum-told-2 c = search needs
-
-same-length : tie.Need-same-length
-same-length c = search needs
-
 returns : tie.Need-returns
 returns c =
-    let s = c .before .before .before .before .before .before .before .before .before .before .before .before .before .before .before .before .before .before .before in
-    let d = c .before .before .before .before .before .before .before .before .divide-slot in
-    newton-passed binary64 (s .args .n) (s .args .w .now) (s .pre) (c .before .before .before .before .before .before .before .before .before .before .before .before .before .before .before .before .copy .last .0) (c .before .before .before .before .before .before .before .before .before .before .before .before .copy2 .last .0) (d .last .0) (d .result) (c .before .before .before .before .before .before .before .before .before .before .before .before .before .before .before .before .copy .ensures) (c .before .before .before .before .before .before .before .before .before .before .before .before .copy2 .ensures) (d .ensures)
-    (c .before .before .newton-mean .last .0) (c .before .before .newton-mean .result) (c .before .before .before .before .enum-told .given .1) (c .before .before .newton-mean .ensures)
-
-same-length-2 : tie.Need-same-length-2
-same-length-2 c = search needs
+    let (newton-mean, told, divide-slot, copy2, copy, s) :
+    tie.After-newton-mean × tie.After-enum-told × tie.After-divide-slot × tie.After-copy2 × tie.After-copy × tie.Start = search in
+    let d = divide-slot .divide-slot in
+    newton-passed binary64 (s .args .n) (s .args .w .now) (s .pre) (copy .copy .last .0) (copy2 .copy2 .last .0) (d .last .0) (d .result) (copy .copy .ensures) (copy2 .copy2 .ensures) (d .ensures)
+    (newton-mean .newton-mean .last .0) (newton-mean .newton-mean .result) (told .enum-told .given .1) (newton-mean .newton-mean .ensures)
 
 returns-2 : tie.Need-returns-2
 returns-2 c =
-    let s = c .before .before .before .before .before .before .before .before .before .before .before .before .before .before .before in
-    let d = c .before .before .before .before .divide-slot in
-    newton-failed binary64 (s .args .n) (s .args .w .now) (s .pre) (c .before .before .before .before .before .before .before .before .before .before .before .before .copy .last .0) (c .before .before .before .before .before .before .before .before .copy2 .last .0) (d .last .0) (d .result) (c .before .before .before .before .before .before .before .before .before .before .before .before .copy .ensures) (c .before .before .before .before .before .before .before .before .copy2 .ensures) (d .ensures)
-    (c .enum-told2 .given .0 .0) (c .enum-told2 .given .1)
+    let (told2, divide-slot, copy2, copy, s) : tie.After-enum-told2 × tie.After-divide-slot × tie.After-copy2 × tie.After-copy × tie.Start = search in
+    let d = divide-slot .divide-slot in
+    newton-failed binary64 (s .args .n) (s .args .w .now) (s .pre) (copy .copy .last .0) (copy2 .copy2 .last .0) (d .last .0) (d .result) (copy .copy .ensures) (copy2 .copy2 .ensures) (d .ensures)
+    (told2 .enum-told2 .given .0 .0) (told2 .enum-told2 .given .1)
 
 pub newton-pass-spec : {M : Type 1} → statement M
 newton-pass-spec =
     tie.close
     (tie.spec
-    copy-requires
-    copy-requires-2
-    divide-slot-requires
-    enum-told
-    newton-mean-requires
-    enum-told-2
-    same-length
+    (λ c κs. search needs)
+    (λ c κs. search needs)
+    (λ c κs. search needs)
+    (λ c. search needs)
+    (λ c κs. search needs)
+    (λ c. search needs)
+    (λ c. search needs)
     returns
-    same-length-2
+    (λ c. search needs)
     returns-2)

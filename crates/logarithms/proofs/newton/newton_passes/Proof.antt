@@ -20,70 +20,59 @@ abbrev μ-loop : tie.MeasureT-loop
 
 loop-holds : tie.Need-loop-holds Inv-loop μ-loop
 loop-holds c =
-    let s = c .before in
+    let s : tie.Start Inv-loop μ-loop = search in
     let a = s .args in
     (omega arith, refl, passing-none (λ _. newtonStep binary64 (a .n) (slot (a .n) (a .w .now) 0)) (root (a .n)) used (a .w .now), s .pre)
 
 newton-pass-requires : tie.Need-newton-pass-requires Inv-loop μ-loop
-newton-pass-requires c κs = record { order = c .before .before .before .before .pre .order; space = omega (arith, c .before .before .loop .inv .1, c .before .before .before .before .pre .space) }
-
-enum-told : tie.Need-enum-told Inv-loop μ-loop
-enum-told c = search needs
-
-enum-told-2 : tie.Need-enum-told-2 Inv-loop μ-loop
-enum-told-2 c = search needs
-
-same-length : tie.Need-same-length Inv-loop μ-loop
-same-length c = search needs
+newton-pass-requires c κs =
+    let head : tie.At-loop Inv-loop μ-loop = search in
+    let s : tie.Start Inv-loop μ-loop = search in
+    record { order = s .pre .order; space = omega (arith, head .loop .inv .1, s .pre .space) }
 
 returns : tie.Need-returns Inv-loop μ-loop
 returns c =
-    let l = c .before .before .before .before .before .before .before .loop in
-    let a = c .before .before .before .before .before .before .before .before .before .args in
-    let p = c .before .before .before .before .newton-pass in
+    let (told2, newton-pass, turn, head, s) :
+    tie.After-enum-told2 Inv-loop μ-loop × tie.After-newton-pass Inv-loop μ-loop × tie.In-loop Inv-loop μ-loop × tie.At-loop Inv-loop μ-loop
+    × tie.Start Inv-loop μ-loop = search in
+    let l = head .loop in
+    let a = s .args in
+    let p = newton-pass .newton-pass in
     passing-stops (λ _. newtonStep binary64 (a .n) (slot (a .n) (a .w .now) 0)) (root (a .n)) used (a .w .now) (l .w) (p .last .0) (l .i) (p .result) (l .inv .2)
-    (newton-same binary64 (a .n) (a .w .now) (l .inv .3) (l .w) (p .last .0) (p .result) (l .inv .2 .only) (p .ensures)) 100 (c .before .before .before .before .before .before .loop-test .taken) (c .enum-told2 .given .1)
-
-enum-told-3 : tie.Need-enum-told-3 Inv-loop μ-loop
-enum-told-3 c = search needs
-
-same-length-2 : tie.Need-same-length-2 Inv-loop μ-loop
-same-length-2 c = search needs
+    (newton-same binary64 (a .n) (a .w .now) (l .inv .3) (l .w) (p .last .0) (p .result) (l .inv .2 .only) (p .ensures)) 100 (turn .loop-test .taken) (told2 .enum-told2 .given .1)
 
 returns-2 : tie.Need-returns-2 Inv-loop μ-loop
 returns-2 c =
-    let l = c .before .before .before .before .before .before .before .loop in
-    let a = c .before .before .before .before .before .before .before .before .before .args in
-    let p = c .before .before .before .before .newton-pass in
+    let (told3, newton-pass, turn, head, s) :
+    tie.After-enum-told3 Inv-loop μ-loop × tie.After-newton-pass Inv-loop μ-loop × tie.In-loop Inv-loop μ-loop × tie.At-loop Inv-loop μ-loop
+    × tie.Start Inv-loop μ-loop = search in
+    let l = head .loop in
+    let a = s .args in
+    let p = newton-pass .newton-pass in
     passing-fails (λ _. newtonStep binary64 (a .n) (slot (a .n) (a .w .now) 0)) (root (a .n)) used (a .w .now) (l .w) (p .last .0) (l .i) (p .result) (l .inv .2)
-    (newton-same binary64 (a .n) (a .w .now) (l .inv .3) (l .w) (p .last .0) (p .result) (l .inv .2 .only) (p .ensures)) 100 (c .before .before .before .before .before .before .loop-test .taken) (c .enum-told3 .given .1)
-
-add-i : tie.Need-add-i Inv-loop μ-loop
-add-i c = search needs
-
-loop-less : tie.Need-loop-less Inv-loop μ-loop
-loop-less c = search needs
+    (newton-same binary64 (a .n) (a .w .now) (l .inv .3) (l .w) (p .last .0) (p .result) (l .inv .2 .only) (p .ensures)) 100 (turn .loop-test .taken) (told3 .enum-told3 .given .1)
 
 loop-again : tie.Need-loop-again Inv-loop μ-loop
 loop-again c =
-    let l = c .before .before .before .before .before .before .before .loop in
-    let a = c .before .before .before .before .before .before .before .before .before .args in
-    let p = c .before .before .before .before .newton-pass in (
-      omega (arith, c .before .before .before .before .before .before .loop-test .taken),
+    let (told, newton-pass, turn, head, s) :
+    tie.After-enum-told Inv-loop μ-loop × tie.After-newton-pass Inv-loop μ-loop × tie.In-loop Inv-loop μ-loop × tie.At-loop Inv-loop μ-loop
+    × tie.Start Inv-loop μ-loop = search in
+    let l = head .loop in
+    let a = s .args in
+    let p = newton-pass .newton-pass in (
+      omega (arith, turn .loop-test .taken),
       p .kept .0 ∙ l .inv .1,
       passing-more (λ _. newtonStep binary64 (a .n) (slot (a .n) (a .w .now) 0)) (root (a .n)) used (a .w .now) (l .w) (p .last .0) (l .i) (p .result) (l .inv .2)
-          (newton-same binary64 (a .n) (a .w .now) (l .inv .3) (l .w) (p .last .0) (p .result) (l .inv .2 .only) (p .ensures)) (c .enum-told .given .1),
+          (newton-same binary64 (a .n) (a .w .now) (l .inv .3) (l .w) (p .last .0) (p .result) (l .inv .2 .only) (p .ensures)) (told .enum-told .given .1),
       l .inv .3,
     )
 
-same-length-3 : tie.Need-same-length-3 Inv-loop μ-loop
-same-length-3 c = search needs
-
 returns-3 : tie.Need-returns-3 Inv-loop μ-loop
 returns-3 c =
-    let l = c .before .loop in
-    let a = c .before .before .before .args in
-    passing-out (λ _. newtonStep binary64 (a .n) (slot (a .n) (a .w .now) 0)) (root (a .n)) used (a .w .now) (l .w) (l .i) 100 (l .inv .2) (l .inv .0) (c .loop-test .left)
+    let (end, head, s) : tie.After-loop Inv-loop μ-loop × tie.At-loop Inv-loop μ-loop × tie.Start Inv-loop μ-loop = search in
+    let l = head .loop in
+    let a = s .args in
+    passing-out (λ _. newtonStep binary64 (a .n) (slot (a .n) (a .w .now) 0)) (root (a .n)) used (a .w .now) (l .w) (l .i) 100 (l .inv .2) (l .inv .0) (end .loop-test .left)
 
 pub newton-passes-spec : {M : Type 1} → statement M
 newton-passes-spec =
@@ -93,15 +82,15 @@ newton-passes-spec =
     μ-loop
     loop-holds
     newton-pass-requires
-    enum-told
-    enum-told-2
-    same-length
+    (λ c. search needs)
+    (λ c. search needs)
+    (λ c. search needs)
     returns
-    enum-told-3
-    same-length-2
+    (λ c. search needs)
+    (λ c. search needs)
     returns-2
-    add-i
-    loop-less
+    (λ c. search needs)
+    (λ c. search needs)
     loop-again
-    same-length-3
+    (λ c. search needs)
     returns-3)

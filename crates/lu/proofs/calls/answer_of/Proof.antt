@@ -3,25 +3,25 @@ use borrow.Author.Needs.{needs}
 use Rattle.lu.proofs.calls.answer_of.Statement.{statement}
 use Rattle.lu.proofs.calls.answer_of.Tie as tie
 
-enum-told : tie.Need-enum-told
-enum-told c = search needs
-
-done-requires : tie.Need-done-requires
-done-requires c κs = search needs
-
-enum-known-outcome : tie.Need-enum-known-outcome
-enum-known-outcome c = search needs
-
-refused-requires : tie.Need-refused-requires
-refused-requires c κs = search needs
-
 returns : tie.Need-returns
-returns c = rw (c .before .enum-told .given .1) (c .done .ensures)
+returns c =
+    let done : tie.After-done = search in
+    let told : tie.After-enum-told = search in
+    rw (told .enum-told .given .1) (done .done .ensures)
 
 returns-2 : tie.Need-returns-2
-returns-2 c = rw (c .before .before .outcome .given .1) (c .refused .ensures)
+returns-2 c =
+    let refused : tie.After-refused = search in
+    let outcome : tie.After-outcome = search in
+    rw (outcome .outcome .given .1) (refused .refused .ensures)
 
 pub answer-of-spec : {M : Type 1} → statement M
 answer-of-spec =
     tie.close
-    (tie.spec enum-told done-requires enum-known-outcome refused-requires returns returns-2)
+    (tie.spec
+    (λ c. search needs)
+    (λ c κs. search needs)
+    (λ c. search needs)
+    (λ c κs. search needs)
+    returns
+    returns-2)

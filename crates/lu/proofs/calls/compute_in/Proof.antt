@@ -8,60 +8,24 @@ use borrow.Author.Needs.{needs}
 use Rattle.lu.proofs.calls.compute_in.Statement.{statement}
 use Rattle.lu.proofs.calls.compute_in.Tie as tie
 
-factor-copy-requires : tie.Need-factor-copy-requires
-factor-copy-requires c κs = search needs
-
-enum-told : tie.Need-enum-told
-enum-told c = search needs
-
 copy-out-requires : tie.Need-copy-out-requires
 copy-out-requires c κs =
-    let call = c .before .before .before .before .before .before .before .before in
-    let s = call .before .before .before .before .before .before .before .before in
+    let call : tie.After-factor-copy = search in
+    let s : tie.Start = search in
     omega (arith, product64 (s .args .n) (s .args .n) (s .pre .0) (s .pre .0), s .pre .2, s .pre .4, call .factor-copy .kept .1 .1 .0)
-
-copy-pivots-requires : tie.Need-copy-pivots-requires
-copy-pivots-requires c κs = search needs
-
-enum-known-outcome : tie.Need-enum-known-outcome
-enum-known-outcome c = search needs
-
-same-length : tie.Need-same-length
-same-length c = search needs
-
-same-length-2 : tie.Need-same-length-2
-same-length-2 c = search needs
-
-same-length-3 : tie.Need-same-length-3
-same-length-3 c = search needs
-
-same-length-4 : tie.Need-same-length-4
-same-length-4 c = search needs
 
 returns : tie.Need-returns
 returns c =
-    let pivots = c .before .before in
-    let out = pivots .before .before .before .before .before in
-    let told = out .before .before .before in
-    let call = told .before .before .before .before .before .before in
-    let s = call .before .before .before .before .before .before .before .before in
+    let (pivots, out, told, call, s) : tie.After-copy-pivots × tie.After-copy-out × tie.After-enum-told × tie.After-factor-copy × tie.Start = search in
     let a = s .args in
     let d = call .factor-copy in
     let few = product64 (a .n) (a .n) (s .pre .0) (s .pre .0) in
     computing-all binary64 (a .n) (now (a .a)) (now (a .w)) (s .pre .1) (omega (arith, few, s .pre .2)) (now (a .rows)) (d .last .1 .1 .0) (d .last .1 .1 .1 .0) (d .result) (d .ensures) few
     (now (a .factors)) (out .copy-out .last .1 .1 .0) (now (a .pivots)) (pivots .copy-pivots .last .0) (told .enum-told .given .1) (s .pre .3) (s .pre .4) (out .copy-out .ensures) (pivots .copy-pivots .ensures)
 
-same-length-5 : tie.Need-same-length-5
-same-length-5 c = search needs
-
-same-length-6 : tie.Need-same-length-6
-same-length-6 c = search needs
-
 returns-2 : tie.Need-returns-2
 returns-2 c =
-    let told = c .before in
-    let call = told .before .before .before .before .before .before in
-    let s = call .before .before .before .before .before .before .before .before in
+    let (told, call, s) : tie.After-outcome × tie.After-factor-copy × tie.Start = search in
     let a = s .args in
     let d = call .factor-copy in
     let few = product64 (a .n) (a .n) (s .pre .0) (s .pre .0) in
@@ -72,16 +36,16 @@ pub compute-in-spec : {M : Type 1} → statement M
 compute-in-spec =
     tie.close
     (tie.spec
-    factor-copy-requires
-    enum-told
+    (λ c κs. search needs)
+    (λ c. search needs)
     copy-out-requires
-    copy-pivots-requires
-    enum-known-outcome
-    same-length
-    same-length-2
-    same-length-3
-    same-length-4
+    (λ c κs. search needs)
+    (λ c. search needs)
+    (λ c. search needs)
+    (λ c. search needs)
+    (λ c. search needs)
+    (λ c. search needs)
     returns
-    same-length-5
-    same-length-6
+    (λ c. search needs)
+    (λ c. search needs)
     returns-2)

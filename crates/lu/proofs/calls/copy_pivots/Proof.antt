@@ -17,40 +17,23 @@ abbrev μ-loop : tie.MeasureT-loop
 μ-loop dst₀ src k₀ dst k = length src - k
 
 loop-holds : tie.Need-loop-holds Inv-loop μ-loop
-loop-holds c = (omega arith, c .pre, refl, patch-none 0 0 _ _)
-
-mul-dst : tie.Need-mul-dst Inv-loop μ-loop
-mul-dst c = search needs
-
-shared-slice-read-dst : tie.Need-shared-slice-read-dst Inv-loop μ-loop
-shared-slice-read-dst c = search needs
-
-mul-dst-2 : tie.Need-mul-dst-2 Inv-loop μ-loop
-mul-dst-2 c = search needs
-
-slice-write-dst : tie.Need-slice-write-dst Inv-loop μ-loop
-slice-write-dst c = search needs
-
-add-k : tie.Need-add-k Inv-loop μ-loop
-add-k c = search needs
-
-loop-less : tie.Need-loop-less Inv-loop μ-loop
-loop-less c = search needs
+loop-holds c = let s : tie.Start Inv-loop μ-loop = search in (omega arith, s .pre, refl, patch-none 0 0 _ _)
 
 loop-again : tie.Need-loop-again Inv-loop μ-loop
 loop-again c =
-    let l = c .before .before .loop in
-    let a = c .before .before .before .args in
+    let head : tie.At-loop Inv-loop μ-loop = search in
+    let s : tie.Start Inv-loop μ-loop = search in
+    let l = head .loop in
+    let a = s .args in
     (omega arith, l .inv .1, simp length-set (l .inv .2), rw (l .inv .3) (patch-more 0 0 _ (a .dst .now) (l .k) (omega arith) (omega arith)))
-
-same-length : tie.Need-same-length Inv-loop μ-loop
-same-length c = search needs
 
 returns : tie.Need-returns Inv-loop μ-loop
 returns c =
-    let a = c .before .before .args in
-    let e : c .before .loop .k ≡ length (a .src .now) = omega arith in
-    rw e at (c .before .loop .inv .3) ∙ patch-all 0 (length (a .src .now)) _ (a .dst .now) (omega arith) ∙ tab-getD (a .src .now) 0
+    let head : tie.At-loop Inv-loop μ-loop = search in
+    let s : tie.Start Inv-loop μ-loop = search in
+    let a = s .args in
+    let e : head .loop .k ≡ length (a .src .now) = omega arith in
+    rw e at (head .loop .inv .3) ∙ patch-all 0 (length (a .src .now)) _ (a .dst .now) (omega arith) ∙ tab-getD (a .src .now) 0
 
 pub copy-pivots-spec : {M : Type 1} → statement M
 copy-pivots-spec =
@@ -59,12 +42,12 @@ copy-pivots-spec =
     Inv-loop
     μ-loop
     loop-holds
-    mul-dst
-    shared-slice-read-dst
-    mul-dst-2
-    slice-write-dst
-    add-k
-    loop-less
+    (λ c. search needs)
+    (λ c. search needs)
+    (λ c. search needs)
+    (λ c. search needs)
+    (λ c. search needs)
+    (λ c. search needs)
     loop-again
-    same-length
+    (λ c. search needs)
     returns)

@@ -20,42 +20,25 @@ abbrev μ-loop : tie.MeasureT-loop
 
 loop-holds : tie.Need-loop-holds Inv-loop μ-loop
 loop-holds c =
-    let s = c .before .before in
+    let s : tie.Start Inv-loop μ-loop = search in
     let a = s .args in
     (omega arith, s .pre .2, patch-none nan 0 (λ r. at (a .m) (a .b .now) r (a .j)) (a .x .now))
 
-entry-requires : tie.Need-entry-requires Inv-loop μ-loop
-entry-requires c κs = search needs
-
-mul-x : tie.Need-mul-x Inv-loop μ-loop
-mul-x c = search needs
-
-slice-write-x : tie.Need-slice-write-x Inv-loop μ-loop
-slice-write-x c = search needs
-
-add-i : tie.Need-add-i Inv-loop μ-loop
-add-i c = search needs
-
-loop-less : tie.Need-loop-less Inv-loop μ-loop
-loop-less c = search needs
-
 loop-again : tie.Need-loop-again Inv-loop μ-loop
 loop-again c =
-    let l = c .before .before .loop in
-    let s = c .before .before .before .before .before in
+    let (entry, head, s) : tie.After-entry Inv-loop μ-loop × tie.At-loop Inv-loop μ-loop × tie.Start Inv-loop μ-loop = search in
+    let l = head .loop in
     let a = s .args in (
       omega arith,
-      length-set (l .x) (l .i) (c .entry .result) ∙ l .inv .1,
-      load-turn (a .n) (a .m) (a .j) (a .b .now) (a .x .now) (l .x) _ (l .i) (c .entry .result) (omega arith) (l .inv .2) (c .entry .ensures) refl,
+      length-set (l .x) (l .i) (entry .entry .result) ∙ l .inv .1,
+      load-turn (a .n) (a .m) (a .j) (a .b .now) (a .x .now) (l .x) _ (l .i) (entry .entry .result) (omega arith) (l .inv .2) (entry .entry .ensures) refl,
     )
-
-same-length : tie.Need-same-length Inv-loop μ-loop
-same-length c = search needs
 
 returns : tie.Need-returns Inv-loop μ-loop
 returns c =
-    let l = c .before .loop in
-    let s = c .before .before .before .before in
+    let head : tie.At-loop Inv-loop μ-loop = search in
+    let s : tie.Start Inv-loop μ-loop = search in
+    let l = head .loop in
     let a = s .args in
     let e : l .i ≡ a .n = omega arith in
     l .inv .2
@@ -69,11 +52,11 @@ load-column-spec =
     Inv-loop
     μ-loop
     loop-holds
-    entry-requires
-    mul-x
-    slice-write-x
-    add-i
-    loop-less
+    (λ c κs. search needs)
+    (λ c. search needs)
+    (λ c. search needs)
+    (λ c. search needs)
+    (λ c. search needs)
     loop-again
-    same-length
+    (λ c. search needs)
     returns)

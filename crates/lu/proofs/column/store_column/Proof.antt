@@ -17,42 +17,25 @@ abbrev μ-loop : tie.MeasureT-loop
 
 loop-holds : tie.Need-loop-holds Inv-loop μ-loop
 loop-holds c =
-    let s = c .before .before in
+    let s : tie.Start Inv-loop μ-loop = search in
     let a = s .args in
     (omega arith, s .pre .1, store-none (a .n) (a .m) (a .j) (a .x .now) (a .b .now) (s .pre .1))
 
-mul-set-entry : tie.Need-mul-set-entry Inv-loop μ-loop
-mul-set-entry c = search needs
-
-shared-slice-read-set-entry : tie.Need-shared-slice-read-set-entry Inv-loop μ-loop
-shared-slice-read-set-entry c = search needs
-
-set-entry-requires : tie.Need-set-entry-requires Inv-loop μ-loop
-set-entry-requires c κs = search needs
-
-add-i : tie.Need-add-i Inv-loop μ-loop
-add-i c = search needs
-
-loop-less : tie.Need-loop-less Inv-loop μ-loop
-loop-less c = search needs
-
 loop-again : tie.Need-loop-again Inv-loop μ-loop
 loop-again c =
-    let put = c .before .before in
-    let turn = put .before .before .before in
-    let l = turn .before .loop in
-    let s = turn .before .before .before .before in
+    let (put, turn, head, s) :
+    tie.After-set-entry Inv-loop μ-loop × tie.In-loop Inv-loop μ-loop × tie.At-loop Inv-loop μ-loop × tie.Start Inv-loop μ-loop = search in
+    let l = head .loop in
     let a = s .args in
     let e = store-turn (a .n) (a .m) (a .j) (a .x .now) (a .b .now) (l .i) (l .b) (put .set-entry .last .0) (turn .loop-test .taken) (s .pre .0) (l .inv .2) (put .set-entry .ensures) in
     (omega arith, ap length e ∙ length-columnTo (a .n) (a .m) (a .j) (a .x .now) (a .b .now) (l .i + 1), e)
 
-same-length : tie.Need-same-length Inv-loop μ-loop
-same-length c = search needs
-
 returns : tie.Need-returns Inv-loop μ-loop
 returns c =
-    let l = c .before .loop in
-    let a = c .before .before .before .before .args in
+    let head : tie.At-loop Inv-loop μ-loop = search in
+    let s : tie.Start Inv-loop μ-loop = search in
+    let l = head .loop in
+    let a = s .args in
     let e : l .i ≡ a .n = omega arith in
     l .inv .2 ∙ ap (columnTo (a .n) (a .m) (a .j) (a .x .now) (a .b .now)) e ∙ store-all (a .n) (a .m) (a .j) (a .x .now) (a .b .now)
 
@@ -63,11 +46,11 @@ store-column-spec =
     Inv-loop
     μ-loop
     loop-holds
-    mul-set-entry
-    shared-slice-read-set-entry
-    set-entry-requires
-    add-i
-    loop-less
+    (λ c. search needs)
+    (λ c. search needs)
+    (λ c κs. search needs)
+    (λ c. search needs)
+    (λ c. search needs)
     loop-again
-    same-length
+    (λ c. search needs)
     returns)

@@ -16,40 +16,28 @@ Inv-loop pivots n k₀ k = (k ≤ length pivots) × (pivotsFrom n 0 pivots ≡ p
 abbrev μ-loop : tie.MeasureT-loop
 μ-loop pivots n k₀ k = length pivots - k
 
-loop-holds : tie.Need-loop-holds Inv-loop μ-loop
-loop-holds c = (omega arith, refl)
-
-mul-p : tie.Need-mul-p Inv-loop μ-loop
-mul-p c = search needs
-
-shared-slice-read-p : tie.Need-shared-slice-read-p Inv-loop μ-loop
-shared-slice-read-p c = search needs
-
-names-row-requires : tie.Need-names-row-requires Inv-loop μ-loop
-names-row-requires c κs = search needs
-
 returns : tie.Need-returns Inv-loop μ-loop
 returns c =
-    let l = c .before .before .before .before .loop in
-    let a = c .before .before .before .before .before .before .args in
-    sym (l .inv .1 ∙ pivots-stop (a .n) (a .pivots .now) (l .k) (omega arith) (sym (c .before .names-row .ensures) ∙ not-true _ (c .if1 .taken)))
-
-add-k : tie.Need-add-k Inv-loop μ-loop
-add-k c = search needs
-
-loop-less : tie.Need-loop-less Inv-loop μ-loop
-loop-less c = search needs
+    let (taken1, names-row, head, s) :
+    tie.Then1 Inv-loop μ-loop × tie.After-names-row Inv-loop μ-loop × tie.At-loop Inv-loop μ-loop × tie.Start Inv-loop μ-loop = search in
+    let l = head .loop in
+    let a = s .args in
+    sym (l .inv .1 ∙ pivots-stop (a .n) (a .pivots .now) (l .k) (omega arith) (sym (names-row .names-row .ensures) ∙ not-true _ (taken1 .if1 .taken)))
 
 loop-again : tie.Need-loop-again Inv-loop μ-loop
 loop-again c =
-    let l = c .before .before .before .before .loop in
-    let a = c .before .before .before .before .before .before .args in
-    (omega arith, l .inv .1 ∙ pivots-more (a .n) (a .pivots .now) (l .k) (omega arith) (sym (c .before .names-row .ensures) ∙ not-false _ (c .if1 .left)))
+    let (left1, names-row, head, s) :
+    tie.Else1 Inv-loop μ-loop × tie.After-names-row Inv-loop μ-loop × tie.At-loop Inv-loop μ-loop × tie.Start Inv-loop μ-loop = search in
+    let l = head .loop in
+    let a = s .args in
+    (omega arith, l .inv .1 ∙ pivots-more (a .n) (a .pivots .now) (l .k) (omega arith) (sym (names-row .names-row .ensures) ∙ not-false _ (left1 .if1 .left)))
 
 returns-2 : tie.Need-returns-2 Inv-loop μ-loop
 returns-2 c =
-    let l = c .before .loop in
-    let a = c .before .before .before .args in
+    let head : tie.At-loop Inv-loop μ-loop = search in
+    let s : tie.Start Inv-loop μ-loop = search in
+    let l = head .loop in
+    let a = s .args in
     sym (l .inv .1 ∙ pivots-end (a .n) (a .pivots .now) (l .k) (omega arith))
 
 pub ask-pivots-spec : {M : Type 1} → statement M
@@ -58,12 +46,12 @@ ask-pivots-spec =
     (tie.spec
     Inv-loop
     μ-loop
-    loop-holds
-    mul-p
-    shared-slice-read-p
-    names-row-requires
+    (λ c. (omega arith, refl))
+    (λ c. search needs)
+    (λ c. search needs)
+    (λ c κs. search needs)
     returns
-    add-k
-    loop-less
+    (λ c. search needs)
+    (λ c. search needs)
     loop-again
     returns-2)

@@ -4,48 +4,29 @@ use Rattle.questions.proofs.QuestionLaws.{single, joined}
 use Rattle.lu.proofs.question.ask_sides.Statement.{statement}
 use Rattle.lu.proofs.question.ask_sides.Tie as tie
 
-ask-requires : tie.Need-ask-requires
-ask-requires c κs = search needs
-
-ask-at-most-requires : tie.Need-ask-at-most-requires
-ask-at-most-requires c κs = search needs
-
-ask-at-most-requires-2 : tie.Need-ask-at-most-requires-2
-ask-at-most-requires-2 c κs = search needs
-
-first-no-requires : tie.Need-first-no-requires
-first-no-requires c κs = search needs
-
-ask-square-requires : tie.Need-ask-square-requires
-ask-square-requires c κs = search needs
-
-first-no-requires-2 : tie.Need-first-no-requires-2
-first-no-requires-2 c κs = search needs
-
-first-no-requires-3 : tie.Need-first-no-requires-3
-first-no-requires-3 c κs = search needs
-
 returns : tie.Need-returns
 returns c =
-    let square = c .before .before .ask-square in
-    let fits = c .before .before .before .before .before .before .ask in
-    let order = c .before .first-no2 in
-    let small = c .before .before .before .before .before .ask-at-most in
-    let narrow = c .before .before .before .before .ask-at-most2 in
-    let limits = c .before .before .before .first-no in
-    joined (c .first-no3 .result)
+    let (first-no3, first-no2, ask-square, first-no, ask-at-most2, ask-at-most, ask) :
+    tie.After-first-no3 × tie.After-first-no2 × tie.After-ask-square × tie.After-first-no × tie.After-ask-at-most2 × tie.After-ask-at-most × tie.After-ask = search in
+    let square = ask-square .ask-square in
+    let fits = ask .ask in
+    let order = first-no2 .first-no2 in
+    let small = ask-at-most .ask-at-most in
+    let narrow = ask-at-most2 .ask-at-most2 in
+    let limits = first-no .first-no in
+    joined (first-no3 .first-no3 .result)
     (joined (order .result) (single (square .result) (square .ensures)) (single (fits .result) (fits .ensures)) (order .ensures))
-    (joined (limits .result) (single (small .result) (small .ensures)) (single (narrow .result) (narrow .ensures)) (limits .ensures)) (c .first-no3 .ensures) .asks
+    (joined (limits .result) (single (small .result) (small .ensures)) (single (narrow .result) (narrow .ensures)) (limits .ensures)) (first-no3 .first-no3 .ensures) .asks
 
 pub ask-sides-spec : {M : Type 1} → statement M
 ask-sides-spec =
     tie.close
     (tie.spec
-    ask-requires
-    ask-at-most-requires
-    ask-at-most-requires-2
-    first-no-requires
-    ask-square-requires
-    first-no-requires-2
-    first-no-requires-3
+    (λ c κs. search needs)
+    (λ c κs. search needs)
+    (λ c κs. search needs)
+    (λ c κs. search needs)
+    (λ c κs. search needs)
+    (λ c κs. search needs)
+    (λ c κs. search needs)
     returns)

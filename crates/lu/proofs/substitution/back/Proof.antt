@@ -19,38 +19,27 @@ abbrev μ-loop : tie.MeasureT-loop
 loop-holds : tie.Need-loop-holds Inv-loop μ-loop
 unfolding Rattle.factoring.specs.Solve.back
 loop-holds c =
-    let s = c .before .before in
+    let s : tie.Start Inv-loop μ-loop = search in
     let e : s .args .n - s .args .n ≡ 0 = omega arith in
     (omega arith, s .pre .1, rw e)
 
-sub-k : tie.Need-sub-k Inv-loop μ-loop
-sub-k c = search needs
-
-back-step-requires : tie.Need-back-step-requires Inv-loop μ-loop
-back-step-requires c κs = search needs
-
-loop-less : tie.Need-loop-less Inv-loop μ-loop
-loop-less c = search needs
-
 loop-again : tie.Need-loop-again Inv-loop μ-loop
 loop-again c =
-    let row = c .before .before in
-    let turn = row .before .before in
-    let l = turn .before .loop in
-    let s = turn .before .before .before .before in
+    let (row, turn, head, s) :
+    tie.After-back-step Inv-loop μ-loop × tie.In-loop Inv-loop μ-loop × tie.At-loop Inv-loop μ-loop × tie.Start Inv-loop μ-loop = search in
+    let l = head .loop in
     let a = s .args in (
       omega arith,
       ap length (row .back-step .ensures) ∙ length-backStep binary64 (a .n) (a .f .now) (l .k - 1) (l .x),
       back-turn binary64 (a .n) (a .f .now) (a .x .now) (l .x) (row .back-step .last .1 .1 .1 .0) (l .k) (turn .loop-test .taken) (l .inv .0) (l .inv .2) (row .back-step .ensures),
     )
 
-same-length : tie.Need-same-length Inv-loop μ-loop
-same-length c = search needs
-
 returns : tie.Need-returns Inv-loop μ-loop
 returns c =
-    let l = c .before .loop in
-    let a = c .before .before .before .before .args in
+    let head : tie.At-loop Inv-loop μ-loop = search in
+    let s : tie.Start Inv-loop μ-loop = search in
+    let l = head .loop in
+    let a = s .args in
     let e : a .n - l .k ≡ a .n = omega arith in
     l .inv .2 ∙ ap (Rattle.factoring.specs.Solve.back binary64 (a .n) (a .f .now) (a .x .now)) e
 
@@ -61,9 +50,9 @@ back-spec =
     Inv-loop
     μ-loop
     loop-holds
-    sub-k
-    back-step-requires
-    loop-less
+    (λ c. search needs)
+    (λ c κs. search needs)
+    (λ c. search needs)
     loop-again
-    same-length
+    (λ c. search needs)
     returns)

@@ -9,32 +9,12 @@ use borrow.Author.Needs.{needs}
 use Rattle.lu.proofs.substitution.back_step.Statement.{statement}
 use Rattle.lu.proofs.substitution.back_step.Tie as tie
 
-mul-q : tie.Need-mul-q
-mul-q c = search needs
-
-slice-read-q : tie.Need-slice-read-q
-slice-read-q c = search needs
-
-entry-requires : tie.Need-entry-requires
-entry-requires c κs = search needs
-
-mul-x : tie.Need-mul-x
-mul-x c = search needs
-
-slice-write-x : tie.Need-slice-write-x
-slice-write-x c = search needs
-
-subtract-above-requires : tie.Need-subtract-above-requires
-subtract-above-requires c κs = search needs
-
 same-length : tie.Need-same-length
-same-length c = simp length-set at (c .before .before .subtract-above .kept .1 .1 .1 .0)
+same-length c = let subtract-above : tie.After-subtract-above = search in simp length-set at (subtract-above .subtract-above .kept .1 .1 .1 .0)
 
 returns : tie.Need-returns
 returns c =
-    let call = c .before .before in
-    let entry1 = call .before .before in
-    let s = entry1 .before .before .before .before in
+    let (call, entry1, s) : tie.After-subtract-above × tie.After-entry × tie.Start = search in
     let a = s .args in
     let x = a .x .now in
     call .subtract-above .ensures
@@ -45,11 +25,11 @@ pub back-step-spec : {M : Type 1} → statement M
 back-step-spec =
     tie.close
     (tie.spec
-    mul-q
-    slice-read-q
-    entry-requires
-    mul-x
-    slice-write-x
-    subtract-above-requires
+    (λ c. search needs)
+    (λ c. search needs)
+    (λ c κs. search needs)
+    (λ c. search needs)
+    (λ c. search needs)
+    (λ c κs. search needs)
     same-length
     returns)

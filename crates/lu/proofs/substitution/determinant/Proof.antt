@@ -16,41 +16,27 @@ Inv-loop f n pivots d₀ k₀ d k = (k ≤ n) × (d ≡ product binary64 n f d�
 abbrev μ-loop : tie.MeasureT-loop
 μ-loop f n pivots d₀ k₀ d k = n - k
 
-swap-count-requires : tie.Need-swap-count-requires Inv-loop μ-loop
-swap-count-requires c κs = search needs
-
-sign-requires : tie.Need-sign-requires Inv-loop μ-loop
-sign-requires c κs = search needs
-
 loop-holds : tie.Need-loop-holds Inv-loop μ-loop
 unfolding product
 loop-holds c = (omega arith, refl)
 
-entry-requires : tie.Need-entry-requires Inv-loop μ-loop
-entry-requires c κs = search needs
-
-add-k : tie.Need-add-k Inv-loop μ-loop
-add-k c = search needs
-
-loop-less : tie.Need-loop-less Inv-loop μ-loop
-loop-less c = search needs
-
 loop-again : tie.Need-loop-again Inv-loop μ-loop
 loop-again c =
-    let l = c .before .before .loop in
-    let first = c .before .before .before in
-    let a = first .before .before .before .before .args in (
+    let (entry, head, first, s) :
+    tie.After-entry Inv-loop μ-loop × tie.At-loop Inv-loop μ-loop × tie.After-sign Inv-loop μ-loop × tie.Start Inv-loop μ-loop = search in
+    let l = head .loop in
+    let a = s .args in (
       omega arith,
-      product-turn binary64 (a .n) (a .f .now) (first .sign .result) (l .d) _ (c .entry .result) (l .k) (l .inv .1) (c .entry .ensures) refl,
+      product-turn binary64 (a .n) (a .f .now) (first .sign .result) (l .d) _ (entry .entry .result) (l .k) (l .inv .1) (entry .entry .ensures) refl,
     )
 
 returns : tie.Need-returns Inv-loop μ-loop
 unfolding determinantOf
 returns c =
-    let l = c .before .loop in
-    let first = c .before .before in
-    let count = first .before in
-    let a = count .before .before .before .args in
+    let (head, first, count, start) :
+    tie.At-loop Inv-loop μ-loop × tie.After-sign Inv-loop μ-loop × tie.After-swap-count Inv-loop μ-loop × tie.Start Inv-loop μ-loop = search in
+    let l = head .loop in
+    let a = start .args in
     let e : l .k ≡ a .n = omega arith in
     l .inv .1
     ∙ ap (product binary64 (a .n) (a .f .now) (first .sign .result)) e
@@ -62,11 +48,11 @@ determinant-spec =
     (tie.spec
     Inv-loop
     μ-loop
-    swap-count-requires
-    sign-requires
+    (λ c κs. search needs)
+    (λ c κs. search needs)
     loop-holds
-    entry-requires
-    add-k
-    loop-less
+    (λ c κs. search needs)
+    (λ c. search needs)
+    (λ c. search needs)
     loop-again
     returns)

@@ -18,36 +18,24 @@ abbrev μ-loop : tie.MeasureT-loop
 
 loop-holds : tie.Need-loop-holds Inv-loop μ-loop
 unfolding Rattle.factoring.specs.Solve.forward
-loop-holds c = (omega arith, c .before .before .pre .1, refl)
-
-forward-step-requires : tie.Need-forward-step-requires Inv-loop μ-loop
-forward-step-requires c κs = search needs
-
-add-k : tie.Need-add-k Inv-loop μ-loop
-add-k c = search needs
-
-loop-less : tie.Need-loop-less Inv-loop μ-loop
-loop-less c = search needs
+loop-holds c = let s : tie.Start Inv-loop μ-loop = search in (omega arith, s .pre .1, refl)
 
 loop-again : tie.Need-loop-again Inv-loop μ-loop
 loop-again c =
-    let row = c .before .before in
-    let turn = row .before .before in
-    let l = turn .before .loop in
-    let s = turn .before .before .before .before in
+    let (row, head, s) : tie.After-forward-step Inv-loop μ-loop × tie.At-loop Inv-loop μ-loop × tie.Start Inv-loop μ-loop = search in
+    let l = head .loop in
     let a = s .args in (
       omega arith,
       ap length (row .forward-step .ensures) ∙ length-forwardStep binary64 (a .n) (a .f .now) (l .k) (l .x),
       forward-turn binary64 (a .n) (a .f .now) (a .x .now) (l .x) (row .forward-step .last .1 .1 .1 .0) (l .k) (l .inv .2) (row .forward-step .ensures),
     )
 
-same-length : tie.Need-same-length Inv-loop μ-loop
-same-length c = search needs
-
 returns : tie.Need-returns Inv-loop μ-loop
 returns c =
-    let l = c .before .loop in
-    let a = c .before .before .before .before .args in
+    let head : tie.At-loop Inv-loop μ-loop = search in
+    let s : tie.Start Inv-loop μ-loop = search in
+    let l = head .loop in
+    let a = s .args in
     let e : l .k ≡ a .n = omega arith in
     l .inv .2 ∙ ap (Rattle.factoring.specs.Solve.forward binary64 (a .n) (a .f .now) (a .x .now)) e
 
@@ -58,9 +46,9 @@ forward-spec =
     Inv-loop
     μ-loop
     loop-holds
-    forward-step-requires
-    add-k
-    loop-less
+    (λ c κs. search needs)
+    (λ c. search needs)
+    (λ c. search needs)
     loop-again
-    same-length
+    (λ c. search needs)
     returns)

@@ -19,48 +19,16 @@ Inv-loop f n k x₀ i₀ x i = (k < i) × (i ≤ n) × (length x ≡ n) × (x �
 abbrev μ-loop : tie.MeasureT-loop
 μ-loop f n k x₀ i₀ x i = n - i
 
-add-i : tie.Need-add-i Inv-loop μ-loop
-add-i c = search needs
-
 loop-holds : tie.Need-loop-holds Inv-loop μ-loop
 loop-holds c =
-    let s = c .before .before in
+    let s : tie.Start Inv-loop μ-loop = search in
     let a = s .args in
     (omega arith, omega arith, s .pre .2, patch-none nan (a .k + 1) (lowered binary64 (a .n) (a .f .now) (a .k) (a .x .now)) (a .x .now))
 
-mul-v : tie.Need-mul-v Inv-loop μ-loop
-mul-v c = search needs
-
-slice-read-v : tie.Need-slice-read-v Inv-loop μ-loop
-slice-read-v c = search needs
-
-entry-requires : tie.Need-entry-requires Inv-loop μ-loop
-entry-requires c κs = search needs
-
-mul-v-2 : tie.Need-mul-v-2 Inv-loop μ-loop
-mul-v-2 c = search needs
-
-slice-read-v-2 : tie.Need-slice-read-v-2 Inv-loop μ-loop
-slice-read-v-2 c = search needs
-
-mul-x : tie.Need-mul-x Inv-loop μ-loop
-mul-x c = search needs
-
-slice-write-x : tie.Need-slice-write-x Inv-loop μ-loop
-slice-write-x c = search needs
-
-add-i-2 : tie.Need-add-i-2 Inv-loop μ-loop
-add-i-2 c = search needs
-
-loop-less : tie.Need-loop-less Inv-loop μ-loop
-loop-less c = search needs
-
 loop-again : tie.Need-loop-again Inv-loop μ-loop
 loop-again c =
-    let entry1 = c .before in
-    let turn = entry1 .before .before in
-    let l = turn .before .loop in
-    let s = turn .before .before .before .before in
+    let (entry1, head, s) : tie.After-entry Inv-loop μ-loop × tie.At-loop Inv-loop μ-loop × tie.Start Inv-loop μ-loop = search in
+    let l = head .loop in
     let a = s .args in (
       omega arith,
       omega arith,
@@ -69,13 +37,11 @@ loop-again c =
           (l .inv .0) (omega arith) (l .inv .3) refl refl (entry1 .entry .ensures) refl,
     )
 
-same-length : tie.Need-same-length Inv-loop μ-loop
-same-length c = search needs
-
 returns : tie.Need-returns Inv-loop μ-loop
 returns c =
-    let l = c .before .loop in
-    let s = c .before .before .before .before in
+    let head : tie.At-loop Inv-loop μ-loop = search in
+    let s : tie.Start Inv-loop μ-loop = search in
+    let l = head .loop in
     let a = s .args in
     let e : l .i ≡ a .n = omega arith in
     l .inv .3
@@ -88,17 +54,17 @@ forward-step-spec =
     (tie.spec
     Inv-loop
     μ-loop
-    add-i
+    (λ c. search needs)
     loop-holds
-    mul-v
-    slice-read-v
-    entry-requires
-    mul-v-2
-    slice-read-v-2
-    mul-x
-    slice-write-x
-    add-i-2
-    loop-less
+    (λ c. search needs)
+    (λ c. search needs)
+    (λ c κs. search needs)
+    (λ c. search needs)
+    (λ c. search needs)
+    (λ c. search needs)
+    (λ c. search needs)
+    (λ c. search needs)
+    (λ c. search needs)
     loop-again
-    same-length
+    (λ c. search needs)
     returns)

@@ -18,49 +18,32 @@ abbrev μ-loop : tie.MeasureT-loop
 
 loop-holds : tie.Need-loop-holds Inv-loop μ-loop
 unfolding permuted
-loop-holds c = (omega arith, c .pre .1, refl)
-
-mul-p : tie.Need-mul-p Inv-loop μ-loop
-mul-p c = search needs
-
-shared-slice-read-p : tie.Need-shared-slice-read-p Inv-loop μ-loop
-shared-slice-read-p c = search needs
-
-mul-a : tie.Need-mul-a Inv-loop μ-loop
-mul-a c = search needs
-
-slice-read-a : tie.Need-slice-read-a Inv-loop μ-loop
-slice-read-a c = search needs
+loop-holds c = let s : tie.Start Inv-loop μ-loop = search in (omega arith, s .pre .1, refl)
 
 mul-b : tie.Need-mul-b Inv-loop μ-loop
-mul-b c = let turn = c .before .before in omega (arith, turn .before .before .pre .2 (turn .before .loop .k) (turn .loop-test .taken))
+mul-b c =
+    let (turn, head, s) : tie.In-loop Inv-loop μ-loop × tie.At-loop Inv-loop μ-loop × tie.Start Inv-loop μ-loop = search in
+    omega (arith, s .pre .2 (head .loop .k) (turn .loop-test .taken))
 
 slice-read-b : tie.Need-slice-read-b Inv-loop μ-loop
-slice-read-b c = let turn = c .before .before .before in omega (arith, turn .before .before .pre .2 (turn .before .loop .k) (turn .loop-test .taken))
-
-mul-x : tie.Need-mul-x Inv-loop μ-loop
-mul-x c = search needs
-
-slice-write-x : tie.Need-slice-write-x Inv-loop μ-loop
-slice-write-x c = search needs
+slice-read-b c =
+    let (turn, head, s) : tie.In-loop Inv-loop μ-loop × tie.At-loop Inv-loop μ-loop × tie.Start Inv-loop μ-loop = search in
+    omega (arith, s .pre .2 (head .loop .k) (turn .loop-test .taken))
 
 mul-x-2 : tie.Need-mul-x-2 Inv-loop μ-loop
-mul-x-2 c = let turn = c .before .before .before in omega (arith, turn .before .before .pre .2 (turn .before .loop .k) (turn .loop-test .taken))
+mul-x-2 c =
+    let (turn, head, s) : tie.In-loop Inv-loop μ-loop × tie.At-loop Inv-loop μ-loop × tie.Start Inv-loop μ-loop = search in
+    omega (arith, s .pre .2 (head .loop .k) (turn .loop-test .taken))
 
 slice-write-x-2 : tie.Need-slice-write-x-2 Inv-loop μ-loop
-slice-write-x-2 c = let turn = c .before .before .before in simp length-set (omega (arith, turn .before .before .pre .2 (turn .before .loop .k) (turn .loop-test .taken)))
-
-add-k : tie.Need-add-k Inv-loop μ-loop
-add-k c = search needs
-
-loop-less : tie.Need-loop-less Inv-loop μ-loop
-loop-less c = search needs
+slice-write-x-2 c =
+    let (turn, head, s) : tie.In-loop Inv-loop μ-loop × tie.At-loop Inv-loop μ-loop × tie.Start Inv-loop μ-loop = search in
+    simp length-set (omega (arith, s .pre .2 (head .loop .k) (turn .loop-test .taken)))
 
 loop-again : tie.Need-loop-again Inv-loop μ-loop
 loop-again c =
-    let turn = c .before .before .before in
-    let l = turn .before .loop in
-    let s = turn .before .before in
+    let (turn, head, s) : tie.In-loop Inv-loop μ-loop × tie.At-loop Inv-loop μ-loop × tie.Start Inv-loop μ-loop = search in
+    let l = head .loop in
     let a = s .args in (
       omega arith,
       simp length-set (l .inv .1),
@@ -68,13 +51,12 @@ loop-again c =
           (turn .loop-test .taken) (s .pre .2 (l .k) (turn .loop-test .taken)) (l .inv .1) (l .inv .2) refl refl,
     )
 
-same-length : tie.Need-same-length Inv-loop μ-loop
-same-length c = search needs
-
 returns : tie.Need-returns Inv-loop μ-loop
 returns c =
-    let l = c .before .loop in
-    let a = c .before .before .args in
+    let head : tie.At-loop Inv-loop μ-loop = search in
+    let s : tie.Start Inv-loop μ-loop = search in
+    let l = head .loop in
+    let a = s .args in
     let e : l .k ≡ a .n = omega arith in
     l .inv .2 ∙ ap (permuted (a .n) (a .pivots .now) (a .x .now)) e
 
@@ -85,18 +67,18 @@ permute-spec =
     Inv-loop
     μ-loop
     loop-holds
-    mul-p
-    shared-slice-read-p
-    mul-a
-    slice-read-a
+    (λ c. search needs)
+    (λ c. search needs)
+    (λ c. search needs)
+    (λ c. search needs)
     mul-b
     slice-read-b
-    mul-x
-    slice-write-x
+    (λ c. search needs)
+    (λ c. search needs)
     mul-x-2
     slice-write-x-2
-    add-k
-    loop-less
+    (λ c. search needs)
+    (λ c. search needs)
     loop-again
-    same-length
+    (λ c. search needs)
     returns)

@@ -17,42 +17,29 @@ abbrev μ-loop : tie.MeasureT-loop
 
 loop-holds : tie.Need-loop-holds Inv-loop μ-loop
 loop-holds c =
-    let s = c .before .before .before .before in
+    let s : tie.Start Inv-loop μ-loop = search in
     let a = s .args in
     (omega arith, s .pre .2, s .pre .1, solved-none binary64 (a .n) (a .m) (a .f .now) (a .pivots .now) (a .x .now) (s .pre .1))
 
-solve-one-column-requires : tie.Need-solve-one-column-requires Inv-loop μ-loop
-solve-one-column-requires c κs = search needs
-
-add-j : tie.Need-add-j Inv-loop μ-loop
-add-j c = search needs
-
-loop-less : tie.Need-loop-less Inv-loop μ-loop
-loop-less c = search needs
-
 loop-again : tie.Need-loop-again Inv-loop μ-loop
 loop-again c =
-    let call = c .before .before .before .before in
-    let l = call .before .before .before .before .loop in
-    let s = call .before .before .before .before .before .before .before .before .before in
+    let (call, turn, head, s) :
+    tie.After-solve-one-column Inv-loop μ-loop × tie.In-loop Inv-loop μ-loop × tie.At-loop Inv-loop μ-loop × tie.Start Inv-loop μ-loop = search in
+    let l = head .loop in
     let a = s .args in
     let d = call .solve-one-column in (
       omega arith,
       d .kept .1 .1 .1 .1 .1 .1 .0 ∙ l .inv .1,
       d .kept .1 .1 .1 .0 ∙ l .inv .2,
-      d .ensures ∙ rw (l .inv .3) (solved-more binary64 (a .n) (a .m) (a .f .now) (a .pivots .now) (a .x .now) (l .j) (call .before .before .before .loop-test .taken)),
+      d .ensures ∙ rw (l .inv .3) (solved-more binary64 (a .n) (a .m) (a .f .now) (a .pivots .now) (a .x .now) (l .j) (turn .loop-test .taken)),
     )
-
-same-length : tie.Need-same-length Inv-loop μ-loop
-same-length c = search needs
-
-same-length-2 : tie.Need-same-length-2 Inv-loop μ-loop
-same-length-2 c = search needs
 
 returns : tie.Need-returns Inv-loop μ-loop
 returns c =
-    let l = c .before .loop in
-    let a = c .before .before .before .before .before .before .args in
+    let head : tie.At-loop Inv-loop μ-loop = search in
+    let s : tie.Start Inv-loop μ-loop = search in
+    let l = head .loop in
+    let a = s .args in
     let e : l .j ≡ a .m = omega arith in
     l .inv .3 ∙ ap (solvedTo binary64 (a .n) (a .m) (a .f .now) (a .pivots .now) (a .x .now)) e ∙ solved-all binary64 (a .n) (a .m) (a .f .now) (a .pivots .now) (a .x .now)
 
@@ -63,10 +50,10 @@ solve-columns-spec =
     Inv-loop
     μ-loop
     loop-holds
-    solve-one-column-requires
-    add-j
-    loop-less
+    (λ c κs. search needs)
+    (λ c. search needs)
+    (λ c. search needs)
     loop-again
-    same-length
-    same-length-2
+    (λ c. search needs)
+    (λ c. search needs)
     returns)

@@ -23,41 +23,28 @@ loop-holds : tie.Need-loop-holds Inv-loop μ-loop
 unfolding swaps
 loop-holds c = (omega arith, refl, omega arith)
 
-mul-if1 : tie.Need-mul-if1 Inv-loop μ-loop
-mul-if1 c = search needs
-
-shared-slice-read-if1 : tie.Need-shared-slice-read-if1 Inv-loop μ-loop
-shared-slice-read-if1 c = search needs
-
-add-c : tie.Need-add-c Inv-loop μ-loop
-add-c c = search needs
-
-add-k : tie.Need-add-k Inv-loop μ-loop
-add-k c = search needs
-
-loop-less : tie.Need-loop-less Inv-loop μ-loop
-loop-less c = search needs
-
 loop-again : tie.Need-loop-again Inv-loop μ-loop
 loop-again c =
-    let turn = c .before .before in
-    let l = turn .before .loop in
-    let a = turn .before .before .args in
+    let (joined1, head, s) : tie.Joined1 Inv-loop μ-loop × tie.At-loop Inv-loop μ-loop × tie.Start Inv-loop μ-loop = search in
+    let l = head .loop in
+    let a = s .args in
     let p = getD (a .pivots .now) (l .k) 0 in
     ⊎-elim (λ w. (
       omega arith,
-      swaps-turn (a .pivots .now) (l .k) (l .c) (c .if1 .c) p (l .inv .1) refl false (ne-eqb p (l .k) (w .0 .taken)) (w .1),
+      swaps-turn (a .pivots .now) (l .k) (l .c) (joined1 .if1 .c) p (l .inv .1) refl false (ne-eqb p (l .k) (w .0 .taken)) (w .1),
       omega (arith, w .1),
     )) (λ w. (
       omega arith,
-      swaps-turn (a .pivots .now) (l .k) (l .c) (c .if1 .c) p (l .inv .1) refl true (eq-eqb p (l .k) (w .0 .left)) (omega (arith, w .1)),
+      swaps-turn (a .pivots .now) (l .k) (l .c) (joined1 .if1 .c) p (l .inv .1) refl true (eq-eqb p (l .k) (w .0 .left)) (omega (arith, w .1)),
       omega (arith, w .1),
-    )) (c .if1 .came)
+    )) (joined1 .if1 .came)
 
 returns : tie.Need-returns Inv-loop μ-loop
 returns c =
-    let l = c .before .loop in
-    let a = c .before .before .args in
+    let head : tie.At-loop Inv-loop μ-loop = search in
+    let s : tie.Start Inv-loop μ-loop = search in
+    let l = head .loop in
+    let a = s .args in
     let e : l .k ≡ a .n = omega arith in
     l .inv .1 ∙ ap (swaps (a .pivots .now)) e
 
@@ -68,10 +55,10 @@ swap-count-spec =
     Inv-loop
     μ-loop
     loop-holds
-    mul-if1
-    shared-slice-read-if1
-    add-c
-    add-k
-    loop-less
+    (λ c. search needs)
+    (λ c. search needs)
+    (λ c. search needs)
+    (λ c. search needs)
+    (λ c. search needs)
     loop-again
     returns)

@@ -17,33 +17,21 @@ use borrow.Author.Needs.{needs}
 use Rattle.powers.proofs.calls.powm_with.Statement.{statement}
 use Rattle.powers.proofs.calls.powm_with.Tie as tie
 
-ask-powm-requires : tie.Need-ask-powm-requires
-ask-powm-requires c κs = search needs
-
-enum-known-why : tie.Need-enum-known-why
-enum-known-why c = search needs
-
-refused-requires : tie.Need-refused-requires
-refused-requires c κs = search needs
-
-enum-told : tie.Need-enum-told
-enum-told c = search needs
-
 copy-in-requires : tie.Need-copy-in-requires
 copy-in-requires c κs =
-    let asked = c .before .before .before .ask-powm in
-    let a = c .before .before .before .before .before .before .before .args in
+    let (told, ask-powm, start) : tie.After-enum-told × tie.After-ask-powm × tie.Start = search in
+    let asked = ask-powm .ask-powm in
+    let a = start .args in
     let call = powered (a .rows) (a .columns) (now (a .a)) (a .p) (length (now (a .out)) ∷ []) (length (now (a .w))) in
-    let s = accepted true anywhere true call (asked .result) (asked .ensures) (c .before .enum-told .given .1) .shape in
+    let s = accepted true anywhere true call (asked .result) (asked .ensures) (told .enum-told .given .1) .shape in
     let few = square-le (a .rows) (omega (arith, s .small)) in
     (omega arith, omega (arith, s .long, s .room, few))
 
 powm-in-requires : tie.Need-powm-in-requires
 powm-in-requires c κs =
-    let copied = c .before .before .before in
-    let told = copied .before .before in
-    let asked = told .before .before .ask-powm in
-    let a = told .before .before .before .before .before .before .args in
+    let (copied, told, ask-powm, start) : tie.After-copy-in × tie.After-enum-told × tie.After-ask-powm × tie.Start = search in
+    let asked = ask-powm .ask-powm in
+    let a = start .args in
     let call = powered (a .rows) (a .columns) (now (a .a)) (a .p) (length (now (a .out)) ∷ []) (length (now (a .w))) in
     let s = accepted true anywhere true call (asked .result) (asked .ensures) (told .enum-told .given .1) .shape in
     let few = square-le (a .rows) (omega (arith, s .small)) in
@@ -51,11 +39,9 @@ powm-in-requires c κs =
 
 deliver-requires : tie.Need-deliver-requires
 deliver-requires c κs =
-    let run = c .before .before .before .before in
-    let copied = run .before .before .before .before in
-    let told = copied .before .before in
-    let asked = told .before .before .ask-powm in
-    let a = told .before .before .before .before .before .before .args in
+    let (run, copied, told, ask-powm, start) : tie.After-powm-in × tie.After-copy-in × tie.After-enum-told × tie.After-ask-powm × tie.Start = search in
+    let asked = ask-powm .ask-powm in
+    let a = start .args in
     let call = powered (a .rows) (a .columns) (now (a .a)) (a .p) (length (now (a .out)) ∷ []) (length (now (a .w))) in
     let s = accepted true anywhere true call (asked .result) (asked .ensures) (told .enum-told .given .1) .shape in
     let few = square-le (a .rows) (omega (arith, s .small)) in
@@ -64,25 +50,18 @@ deliver-requires c κs =
 returns : tie.Need-returns
 unfolding powm
 returns c =
-    let asked = c .before .before .before .before .ask-powm in
-    let a = c .before .before .before .before .before .before .before .before .args in
-    one-refused ofPowm (powered (a .rows) (a .columns) (now (a .a)) (a .p) (length (now (a .out)) ∷ []) (length (now (a .w)))) (asked .result) (asked .ensures) (a .clears) (c .refused .result .outcome) (now (a .out)) (now (a .w)) (powerM binary64 (a .rows) (now (a .a)) (a .p)) _ (c .before .before .why .given .1) (c .refused .ensures)
-
-same-length : tie.Need-same-length
-same-length c = search needs
-
-same-length-2 : tie.Need-same-length-2
-same-length-2 c = search needs
+    let (refused, why, ask-powm, s) : tie.After-refused × tie.After-why × tie.After-ask-powm × tie.Start = search in
+    let asked = ask-powm .ask-powm in
+    let a = s .args in
+    one-refused ofPowm (powered (a .rows) (a .columns) (now (a .a)) (a .p) (length (now (a .out)) ∷ []) (length (now (a .w)))) (asked .result) (asked .ensures) (a .clears) (refused .refused .result .outcome) (now (a .out)) (now (a .w)) (powerM binary64 (a .rows) (now (a .a)) (a .p)) _ (why .why .given .1) (refused .refused .ensures)
 
 returns-2 : tie.Need-returns-2
 unfolding powm
 returns-2 c =
-    let delivered = c .before .before .before .before in
-    let run = delivered .before .before .before .before .before in
-    let copied = run .before .before .before .before in
-    let told = copied .before .before in
-    let asked = told .before .before .ask-powm in
-    let a = told .before .before .before .before .before .before .args in
+    let (delivered, run, copied, told, ask-powm, start) :
+    tie.After-deliver × tie.After-powm-in × tie.After-copy-in × tie.After-enum-told × tie.After-ask-powm × tie.Start = search in
+    let asked = ask-powm .ask-powm in
+    let a = start .args in
     let call = powered (a .rows) (a .columns) (now (a .a)) (a .p) (length (now (a .out)) ∷ []) (length (now (a .w))) in
     let s = accepted true anywhere true call (asked .result) (asked .ensures) (told .enum-told .given .1) .shape in
     let few = square-le (a .rows) (omega (arith, s .small)) in
@@ -93,14 +72,14 @@ pub powm-with-spec : {M : Type 1} → statement M
 powm-with-spec =
     tie.close
     (tie.spec
-    ask-powm-requires
-    enum-known-why
-    refused-requires
-    enum-told
+    (λ c κs. search needs)
+    (λ c. search needs)
+    (λ c κs. search needs)
+    (λ c. search needs)
     copy-in-requires
     powm-in-requires
     deliver-requires
     returns
-    same-length
-    same-length-2
+    (λ c. search needs)
+    (λ c. search needs)
     returns-2)

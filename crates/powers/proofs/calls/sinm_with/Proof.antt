@@ -17,33 +17,21 @@ use borrow.Author.Needs.{needs}
 use Rattle.powers.proofs.calls.sinm_with.Statement.{statement}
 use Rattle.powers.proofs.calls.sinm_with.Tie as tie
 
-ask-expm-requires : tie.Need-ask-expm-requires
-ask-expm-requires c κs = search needs
-
-enum-known-why : tie.Need-enum-known-why
-enum-known-why c = search needs
-
-refused-requires : tie.Need-refused-requires
-refused-requires c κs = search needs
-
-enum-told : tie.Need-enum-told
-enum-told c = search needs
-
 copy-in-requires : tie.Need-copy-in-requires
 copy-in-requires c κs =
-    let asked = c .before .before .before .ask-expm in
-    let a = c .before .before .before .before .before .before .before .args in
+    let (told, ask-expm, start) : tie.After-enum-told × tie.After-ask-expm × tie.Start = search in
+    let asked = ask-expm .ask-expm in
+    let a = start .args in
     let call = unary (a .rows) (a .columns) (now (a .a)) (length (now (a .out)) ∷ []) (length (now (a .w))) in
-    let s = accepted false anywhere true call (asked .result) (asked .ensures) (c .before .enum-told .given .1) .shape in
+    let s = accepted false anywhere true call (asked .result) (asked .ensures) (told .enum-told .given .1) .shape in
     let few = square-le (a .rows) (omega (arith, s .small)) in
     (omega arith, omega (arith, s .long, s .room, few))
 
 sinm-in-requires : tie.Need-sinm-in-requires
 sinm-in-requires c κs =
-    let copied = c .before .before .before in
-    let told = copied .before .before in
-    let asked = told .before .before .ask-expm in
-    let a = told .before .before .before .before .before .before .args in
+    let (copied, told, ask-expm, start) : tie.After-copy-in × tie.After-enum-told × tie.After-ask-expm × tie.Start = search in
+    let asked = ask-expm .ask-expm in
+    let a = start .args in
     let call = unary (a .rows) (a .columns) (now (a .a)) (length (now (a .out)) ∷ []) (length (now (a .w))) in
     let s = accepted false anywhere true call (asked .result) (asked .ensures) (told .enum-told .given .1) .shape in
     let few = square-le (a .rows) (omega (arith, s .small)) in
@@ -51,11 +39,9 @@ sinm-in-requires c κs =
 
 deliver-requires : tie.Need-deliver-requires
 deliver-requires c κs =
-    let run = c .before .before .before .before in
-    let copied = run .before .before .before .before in
-    let told = copied .before .before in
-    let asked = told .before .before .ask-expm in
-    let a = told .before .before .before .before .before .before .args in
+    let (run, copied, told, ask-expm, start) : tie.After-sinm-in × tie.After-copy-in × tie.After-enum-told × tie.After-ask-expm × tie.Start = search in
+    let asked = ask-expm .ask-expm in
+    let a = start .args in
     let call = unary (a .rows) (a .columns) (now (a .a)) (length (now (a .out)) ∷ []) (length (now (a .w))) in
     let s = accepted false anywhere true call (asked .result) (asked .ensures) (told .enum-told .given .1) .shape in
     let few = square-le (a .rows) (omega (arith, s .small)) in
@@ -64,25 +50,18 @@ deliver-requires c κs =
 returns : tie.Need-returns
 unfolding sinm
 returns c =
-    let asked = c .before .before .before .before .ask-expm in
-    let a = c .before .before .before .before .before .before .before .before .args in
-    one-refused ofSinm (unary (a .rows) (a .columns) (now (a .a)) (length (now (a .out)) ∷ []) (length (now (a .w)))) (asked .result) (asked .ensures) (a .clears) (c .refused .result .outcome) (now (a .out)) (now (a .w)) (sinM binary64 (a .rows) (now (a .a))) _ (c .before .before .why .given .1) (c .refused .ensures)
-
-same-length : tie.Need-same-length
-same-length c = search needs
-
-same-length-2 : tie.Need-same-length-2
-same-length-2 c = search needs
+    let (refused, why, ask-expm, s) : tie.After-refused × tie.After-why × tie.After-ask-expm × tie.Start = search in
+    let asked = ask-expm .ask-expm in
+    let a = s .args in
+    one-refused ofSinm (unary (a .rows) (a .columns) (now (a .a)) (length (now (a .out)) ∷ []) (length (now (a .w)))) (asked .result) (asked .ensures) (a .clears) (refused .refused .result .outcome) (now (a .out)) (now (a .w)) (sinM binary64 (a .rows) (now (a .a))) _ (why .why .given .1) (refused .refused .ensures)
 
 returns-2 : tie.Need-returns-2
 unfolding sinm
 returns-2 c =
-    let delivered = c .before .before .before .before in
-    let run = delivered .before .before .before .before .before in
-    let copied = run .before .before .before .before in
-    let told = copied .before .before in
-    let asked = told .before .before .ask-expm in
-    let a = told .before .before .before .before .before .before .args in
+    let (delivered, run, copied, told, ask-expm, start) :
+    tie.After-deliver × tie.After-sinm-in × tie.After-copy-in × tie.After-enum-told × tie.After-ask-expm × tie.Start = search in
+    let asked = ask-expm .ask-expm in
+    let a = start .args in
     let call = unary (a .rows) (a .columns) (now (a .a)) (length (now (a .out)) ∷ []) (length (now (a .w))) in
     let s = accepted false anywhere true call (asked .result) (asked .ensures) (told .enum-told .given .1) .shape in
     let few = square-le (a .rows) (omega (arith, s .small)) in
@@ -93,14 +72,14 @@ pub sinm-with-spec : {M : Type 1} → statement M
 sinm-with-spec =
     tie.close
     (tie.spec
-    ask-expm-requires
-    enum-known-why
-    refused-requires
-    enum-told
+    (λ c κs. search needs)
+    (λ c. search needs)
+    (λ c κs. search needs)
+    (λ c. search needs)
     copy-in-requires
     sinm-in-requires
     deliver-requires
     returns
-    same-length
-    same-length-2
+    (λ c. search needs)
+    (λ c. search needs)
     returns-2)

@@ -8,25 +8,18 @@ use borrow.Author.Needs.{needs}
 use Rattle.powers.proofs.cosine.double.Statement.{statement}
 use Rattle.powers.proofs.cosine.double.Tie as tie
 
-mult-requires : tie.Need-mult-requires
-mult-requires c κs = search needs
-
 times-requires : tie.Need-times-requires
 times-requires c κs =
-    let first = c .before .before .before in
-    let s = first .before .before .before in
+    let first : tie.After-mult = search in
+    let s : tie.Start = search in
     (room-kept (s .pre .0) (first .mult .kept .0), (lit≤ tt, s .pre .1 .0, eqb-swap (s .args .c) 1 (s .pre .1 .1)))
-
-same-length : tie.Need-same-length
-same-length c = search needs
 
 returns : tie.Need-returns
 returns c =
-    let second = c .before .before in
-    let first = second .before .before .before .before in
-    let s = first .before .before .before in
+    let (second, first, s) : tie.After-times × tie.After-mult × tie.Start = search in
     let a = s .args in
     double-steps binary64 (a .n) (a .w .now) (s .pre .0) (a .c) (first .mult .last .0) (second .times .last .0) _ (s .pre .1 .0) (two-bits binary64) (first .mult .ensures) (second .times .ensures)
 
 pub double-spec : {M : Type 1} → statement M
-double-spec = tie.close (tie.spec mult-requires times-requires same-length returns)
+double-spec =
+    tie.close (tie.spec (λ c κs. search needs) times-requires (λ c. search needs) returns)

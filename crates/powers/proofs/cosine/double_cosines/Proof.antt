@@ -16,31 +16,28 @@ abbrev μ-loop : tie.MeasureT-loop
 μ-loop w₀ n s i₀ w i = s - i
 
 loop-holds : tie.Need-loop-holds Inv-loop μ-loop
-loop-holds c = (omega arith, cosine-none binary64 _ _ (c .before .pre))
+loop-holds c = let s : tie.Start Inv-loop μ-loop = search in (omega arith, cosine-none binary64 _ _ (s .pre))
 
 double-cosine-requires : tie.Need-double-cosine-requires Inv-loop μ-loop
-double-cosine-requires c κs = room-kept (c .before .before .before .before .pre) (c .before .before .loop .inv .1 .only .long)
-
-add-i : tie.Need-add-i Inv-loop μ-loop
-add-i c = omega arith
-
-loop-less : tie.Need-loop-less Inv-loop μ-loop
-loop-less c = omega arith
+double-cosine-requires c κs =
+    let head : tie.At-loop Inv-loop μ-loop = search in
+    let s : tie.Start Inv-loop μ-loop = search in
+    room-kept (s .pre) (head .loop .inv .1 .only .long)
 
 loop-again : tie.Need-loop-again Inv-loop μ-loop
 loop-again c =
-    let doubled = c .before .before in
-    let at-loop = doubled .before .before .before in
-    let s = at-loop .before .before in
+    let (doubled, at-loop, s) : tie.After-double-cosine Inv-loop μ-loop × tie.At-loop Inv-loop μ-loop × tie.Start Inv-loop μ-loop = search in
     (omega arith, cosine-more binary64 (s .args .n) (s .args .w .now) (s .pre) (at-loop .loop .i) (at-loop .loop .w) (doubled .double-cosine .last .0) (at-loop .loop .inv .1) (doubled .double-cosine .ensures))
 
 same-length : tie.Need-same-length Inv-loop μ-loop
-same-length c = c .before .loop .inv .1 .only .long
+same-length c = let head : tie.At-loop Inv-loop μ-loop = search in head .loop .inv .1 .only .long
 
 returns : tie.Need-returns Inv-loop μ-loop
 returns c =
-    let e : c .before .loop .i ≡ c .before .before .before .args .s = omega arith in
-    rw e at (c .before .loop .inv .1)
+    let head : tie.At-loop Inv-loop μ-loop = search in
+    let s : tie.Start Inv-loop μ-loop = search in
+    let e : head .loop .i ≡ s .args .s = omega arith in
+    rw e at (head .loop .inv .1)
 
 pub double-cosines-spec : {M : Type 1} → statement M
 double-cosines-spec =
@@ -50,8 +47,8 @@ double-cosines-spec =
     μ-loop
     loop-holds
     double-cosine-requires
-    add-i
-    loop-less
+    (λ c. omega arith)
+    (λ c. omega arith)
     loop-again
     same-length
     returns)

@@ -5,27 +5,18 @@ use borrow.Author.Needs.{needs}
 use Rattle.powers.proofs.cosine.even_powers.Statement.{statement}
 use Rattle.powers.proofs.cosine.even_powers.Tie as tie
 
-mult-requires : tie.Need-mult-requires
-mult-requires c κs = search needs
-
-mult-requires-2 : tie.Need-mult-requires-2
-mult-requires-2 c κs = search needs
-
-mult-requires-3 : tie.Need-mult-requires-3
-mult-requires-3 c κs = search needs
-
-same-length : tie.Need-same-length
-same-length c = search needs
-
 returns : tie.Need-returns
 returns c =
-    let third = c .before .before in
-    let second = third .before .before .before .before in
-    let first = second .before .before .before .before in
-    let s = first .before .before .before in
+    let (third, second, first, s) : tie.After-mult3 × tie.After-mult2 × tie.After-mult × tie.Start = search in
     let a = s .args in
     even-steps binary64 (a .n) (a .w .now) (s .pre) (first .mult .last .0) (second .mult2 .last .0) (third .mult3 .last .0) (first .mult .ensures) (second .mult2 .ensures) (third .mult3 .ensures)
 
 pub even-powers-spec : {M : Type 1} → statement M
 even-powers-spec =
-    tie.close (tie.spec mult-requires mult-requires-2 mult-requires-3 same-length returns)
+    tie.close
+    (tie.spec
+    (λ c κs. search needs)
+    (λ c κs. search needs)
+    (λ c κs. search needs)
+    (λ c. search needs)
+    returns)

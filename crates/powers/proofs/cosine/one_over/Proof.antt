@@ -8,4 +8,6 @@ use Rattle.powers.proofs.cosine.one_over.Tie as tie
 pub one-over-spec : {M : Type 1} → statement M
 one-over-spec =
     tie.close
-    (tie.spec (λ c κs. omega (arith, reciprocal-small (c .args .k) (c .pre))) (λ c. reciprocal binary64 (c .before .args .k) (c .of-small .result) (c .before .pre) (c .of-small .ensures)))
+    (tie.spec
+    (λ c κs. omega (arith, reciprocal-small (c .args .k) (c .pre)))
+    (λ c. let of-small : tie.After-of-small = search in let s : tie.Start = search in reciprocal binary64 (s .args .k) (of-small .of-small .result) (s .pre) (of-small .of-small .ensures)))

@@ -13,59 +13,32 @@ use borrow.Author.Needs.{needs}
 use Rattle.powers.proofs.power.multiple_exponential.Statement.{statement}
 use Rattle.powers.proofs.power.multiple_exponential.Tie as tie
 
-times-requires : tie.Need-times-requires
-times-requires c κs = search needs
-
-copy-requires : tie.Need-copy-requires
-copy-requires c κs = search needs
-
-expm-in-requires : tie.Need-expm-in-requires
-expm-in-requires c κs = search needs
-
-enum-known-why : tie.Need-enum-known-why
-enum-known-why c = search needs
-
-enum-known-halvings : tie.Need-enum-known-halvings
-enum-known-halvings c = search needs
-
-same-length : tie.Need-same-length
-same-length c = search needs
-
 returns : tie.Need-returns
 returns c =
-    let call = c .before .before .before .before .before in
-    let copied = call .before .before .before .before in
-    let scaled = copied .before .before .before .before in
-    let s = scaled .before .before .before in
+    let (why, call, copied, scaled, s) : tie.After-why × tie.After-expm-in × tie.After-copy × tie.After-times × tie.Start = search in
     let a = s .args in
     let w3 = call .expm-in .last .0 in
     let R = multiple-replaced binary64 (a .n) (a .p) (expM binary64 (a .n)) (call .expm-in .result) (a .w .now) (scaled .times .last .0) (copied .copy .last .0) w3 (s .pre) (scaled .times .ensures) (copied .copy .ensures) (call .expm-in .ensures) in
-    then-refused (0 ∷ 1 ∷ 2 ∷ 3 ∷ 4 ∷ 5 ∷ []) (a .n) (expM binary64 (a .n) (timesM binary64 (a .n) (a .p) (slot (a .n) (a .w .now) 0))) (λ x. done 0 x) (0 ∷ 1 ∷ 2 ∷ 3 ∷ 4 ∷ 5 ∷ []) (call .expm-in .result) (a .w .now) w3 R _ (c .before .why .given .1) refl
-
-same-length-2 : tie.Need-same-length-2
-same-length-2 c = search needs
+    then-refused (0 ∷ 1 ∷ 2 ∷ 3 ∷ 4 ∷ 5 ∷ []) (a .n) (expM binary64 (a .n) (timesM binary64 (a .n) (a .p) (slot (a .n) (a .w .now) 0))) (λ x. done 0 x) (0 ∷ 1 ∷ 2 ∷ 3 ∷ 4 ∷ 5 ∷ []) (call .expm-in .result) (a .w .now) w3 R _ (why .why .given .1) refl
 
 returns-2 : tie.Need-returns-2
 returns-2 c =
-    let call = c .before .before .before .before .before in
-    let copied = call .before .before .before .before in
-    let scaled = copied .before .before .before .before in
-    let s = scaled .before .before .before in
+    let (halvings, call, copied, scaled, s) : tie.After-halvings × tie.After-expm-in × tie.After-copy × tie.After-times × tie.Start = search in
     let a = s .args in
     let w3 = call .expm-in .last .0 in
     let R = multiple-replaced binary64 (a .n) (a .p) (expM binary64 (a .n)) (call .expm-in .result) (a .w .now) (scaled .times .last .0) (copied .copy .last .0) w3 (s .pre) (scaled .times .ensures) (copied .copy .ensures) (call .expm-in .ensures) in
-    then-replaced (0 ∷ 1 ∷ 2 ∷ 3 ∷ 4 ∷ 5 ∷ []) (a .n) (expM binary64 (a .n) (timesM binary64 (a .n) (a .p) (slot (a .n) (a .w .now) 0))) (λ x. done 0 x) (0 ∷ 1 ∷ 2 ∷ 3 ∷ 4 ∷ 5 ∷ []) (call .expm-in .result) (a .w .now) w3 R _ [] _ w3 (c .before .halvings .given .1) (replaced-by [] (a .n) 0 (slot (a .n) w3 0) w3 w3 refl (only-refl (member []) w3)) refl refl
+    then-replaced (0 ∷ 1 ∷ 2 ∷ 3 ∷ 4 ∷ 5 ∷ []) (a .n) (expM binary64 (a .n) (timesM binary64 (a .n) (a .p) (slot (a .n) (a .w .now) 0))) (λ x. done 0 x) (0 ∷ 1 ∷ 2 ∷ 3 ∷ 4 ∷ 5 ∷ []) (call .expm-in .result) (a .w .now) w3 R _ [] _ w3 (halvings .halvings .given .1) (replaced-by [] (a .n) 0 (slot (a .n) w3 0) w3 w3 refl (only-refl (member []) w3)) refl refl
 
 pub multiple-exponential-spec : {M : Type 1} → statement M
 multiple-exponential-spec =
     tie.close
     (tie.spec
-    times-requires
-    copy-requires
-    expm-in-requires
-    enum-known-why
-    enum-known-halvings
-    same-length
+    (λ c κs. search needs)
+    (λ c κs. search needs)
+    (λ c κs. search needs)
+    (λ c. search needs)
+    (λ c. search needs)
+    (λ c. search needs)
     returns
-    same-length-2
+    (λ c. search needs)
     returns-2)

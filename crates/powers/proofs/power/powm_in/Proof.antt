@@ -13,51 +13,34 @@ use borrow.Author.Needs.{needs}
 use Rattle.powers.proofs.power.powm_in.Statement.{statement}
 use Rattle.powers.proofs.power.powm_in.Tie as tie
 
-is-integer-requires : tie.Need-is-integer-requires
-is-integer-requires c κs = search needs
-
-integer-of-requires : tie.Need-integer-of-requires
-integer-of-requires c κs = search needs
-
-whole-power-requires : tie.Need-whole-power-requires
-whole-power-requires c κs = search needs
-
-fractional-power-requires : tie.Need-fractional-power-requires
-fractional-power-requires c κs = search needs
-
-same-length : tie.Need-same-length
-same-length c = search needs
-
 returns : tie.Need-returns
 returns c =
-    let call = c .before .before in
-    let cast = call .before .integer-of in
-    let a = c .before .before .before .before .before .before .before .before .args in
+    let (call, integer-of, taken1, is-integer, s) :
+    tie.After-whole-power × tie.After-integer-of × tie.Then1 × tie.After-is-integer × tie.Start = search in
+    let cast = integer-of .integer-of in
+    let a = s .args in
     let x = slot (a .n) (a .w .now) 0 in
-    let e = whole-read binary64 (a .n) x (cast .result) (record { sfits = cast .ok }) ∙ power-whole binary64 (a .n) x (a .p) (cast .result) (whole-told (a .p) (c .before .before .before .before .before .before .is-integer .ensures) (c .before .before .before .before .before .if1 .taken)) (cast .ensures) in
+    let e = whole-read binary64 (a .n) x (cast .result) (record { sfits = cast .ok }) ∙ power-whole binary64 (a .n) x (a .p) (cast .result) (whole-told (a .p) (is-integer .is-integer .ensures) (taken1 .if1 .taken)) (cast .ensures) in
     let w1 = call .whole-power .last .0 in
     replaced-more (0 ∷ 1 ∷ 2 ∷ 3 ∷ 4 ∷ 5 ∷ []) (0 ∷ 1 ∷ 2 ∷ []) (a .n) _ (call .whole-power .result) (a .w .now) (a .w .now) w1 (only-refl (member (0 ∷ 1 ∷ 2 ∷ 3 ∷ 4 ∷ 5 ∷ [])) (a .w .now))
     (subst (λ (v : Result (List Float)). Replaced (0 ∷ 1 ∷ 2 ∷ []) (a .n) v (call .whole-power .result) (a .w .now) w1) e (call .whole-power .ensures)) refl
 
-same-length-2 : tie.Need-same-length-2
-same-length-2 c = search needs
-
 returns-2 : tie.Need-returns-2
 returns-2 c =
-    let call = c .before .before in
-    let a = c .before .before .before .before .before .before .before .args in
-    let e = power-fractional binary64 (a .n) (slot (a .n) (a .w .now) 0) (a .p) (whole-told (a .p) (c .before .before .before .before .before .is-integer .ensures) (c .before .before .before .before .if1 .left)) in
+    let (call, left1, is-integer, s) : tie.After-fractional-power × tie.Else1 × tie.After-is-integer × tie.Start = search in
+    let a = s .args in
+    let e = power-fractional binary64 (a .n) (slot (a .n) (a .w .now) 0) (a .p) (whole-told (a .p) (is-integer .is-integer .ensures) (left1 .if1 .left)) in
     subst (λ (v : Result (List Float)). Replaced (0 ∷ 1 ∷ 2 ∷ 3 ∷ 4 ∷ 5 ∷ []) (a .n) v (call .fractional-power .result) (a .w .now) (call .fractional-power .last .0)) e (call .fractional-power .ensures)
 
 pub powm-in-spec : {M : Type 1} → statement M
 powm-in-spec =
     tie.close
     (tie.spec
-    is-integer-requires
-    integer-of-requires
-    whole-power-requires
-    fractional-power-requires
-    same-length
+    (λ c κs. search needs)
+    (λ c κs. search needs)
+    (λ c κs. search needs)
+    (λ c κs. search needs)
+    (λ c. search needs)
     returns
-    same-length-2
+    (λ c. search needs)
     returns-2)

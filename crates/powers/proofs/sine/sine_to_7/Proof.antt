@@ -5,47 +5,24 @@ use borrow.Author.Needs.{needs}
 use Rattle.powers.proofs.sine.sine_to_7.Statement.{statement}
 use Rattle.powers.proofs.sine.sine_to_7.Tie as tie
 
-one-over-requires : tie.Need-one-over-requires
-one-over-requires c κs = search needs
-
-deduct-requires : tie.Need-deduct-requires
-deduct-requires c κs = search needs
-
-one-over-requires-2 : tie.Need-one-over-requires-2
-one-over-requires-2 c κs = search needs
-
-accumulate-requires : tie.Need-accumulate-requires
-accumulate-requires c κs = search needs
-
-one-over-requires-3 : tie.Need-one-over-requires-3
-one-over-requires-3 c κs = search needs
-
-deduct-requires-2 : tie.Need-deduct-requires-2
-deduct-requires-2 c κs = search needs
-
-same-length : tie.Need-same-length
-same-length c = search needs
-
 returns : tie.Need-returns
 returns c =
-    let last = c .before .before in
-    let second = last .before .before .before .before .before in
-    let first = second .before .before .before .before .before in
-    let s = first .before .before .before .before in
+    let (last, one-over3, second, one-over2, first, one-over, s) :
+    tie.After-deduct2 × tie.After-one-over3 × tie.After-accumulate × tie.After-one-over2 × tie.After-deduct × tie.After-one-over × tie.Start = search in
     let a = s .args in
     seventh-steps binary64 (a .n) (a .w .now) (s .pre) (first .deduct .last .0) (second .accumulate .last .0) (last .deduct2 .last .0)
-    (first .before .one-over .result) (second .before .one-over2 .result) (last .before .one-over3 .result) (first .before .one-over .ensures) (second .before .one-over2 .ensures) (last .before .one-over3 .ensures)
+    (one-over .one-over .result) (one-over2 .one-over2 .result) (one-over3 .one-over3 .result) (one-over .one-over .ensures) (one-over2 .one-over2 .ensures) (one-over3 .one-over3 .ensures)
     (first .deduct .ensures) (second .accumulate .ensures) (last .deduct2 .ensures)
 
 pub sine-to-7-spec : {M : Type 1} → statement M
 sine-to-7-spec =
     tie.close
     (tie.spec
-    one-over-requires
-    deduct-requires
-    one-over-requires-2
-    accumulate-requires
-    one-over-requires-3
-    deduct-requires-2
-    same-length
+    (λ c κs. search needs)
+    (λ c κs. search needs)
+    (λ c κs. search needs)
+    (λ c κs. search needs)
+    (λ c κs. search needs)
+    (λ c κs. search needs)
+    (λ c. search needs)
     returns)

@@ -6,31 +6,25 @@ use borrow.Author.Needs.{needs}
 use Rattle.powers.proofs.whole.inverse_in.Statement.{statement}
 use Rattle.powers.proofs.whole.inverse_in.Tie as tie
 
-pivot-room-requires : tie.Need-pivot-room-requires
-pivot-room-requires c κs = search needs
-
-array-borrow-prefix-pivots : tie.Need-array-borrow-prefix-pivots
-array-borrow-prefix-pivots c = search needs
-
 slice-aggregate-take-inverse : tie.Need-slice-aggregate-take-inverse
-slice-aggregate-take-inverse c = sym (length-take-le _ _ (omega (arith, c .before .before .before .before .pre .order, c .before .before .pivot-room .ensures)))
+slice-aggregate-take-inverse c =
+    let pivot-room : tie.After-pivot-room = search in
+    let s : tie.Start = search in
+    sym (length-take-le _ _ (omega (arith, s .pre .order, pivot-room .pivot-room .ensures)))
 
 take-inverse-requires : tie.Need-take-inverse-requires
-take-inverse-requires c κs = let s = c .before .before .before .before in (s .pre, length-take-le _ _ (omega (arith, s .pre .order, c .before .before .pivot-room .ensures)))
-
-same-length : tie.Need-same-length
-same-length c = search needs
-
-returns : tie.Need-returns
-returns c = search needs
+take-inverse-requires c κs =
+    let pivot-room : tie.After-pivot-room = search in
+    let s : tie.Start = search in
+    (s .pre, length-take-le _ _ (omega (arith, s .pre .order, pivot-room .pivot-room .ensures)))
 
 pub inverse-in-spec : {M : Type 1} → statement M
 inverse-in-spec =
     tie.close
     (tie.spec
-    pivot-room-requires
-    array-borrow-prefix-pivots
+    (λ c κs. search needs)
+    (λ c. search needs)
     slice-aggregate-take-inverse
     take-inverse-requires
-    same-length
-    returns)
+    (λ c. search needs)
+    (λ c. search needs))

@@ -12,51 +12,30 @@ use borrow.Author.Needs.{needs}
 use Rattle.powers.proofs.whole.inverse_power.Statement.{statement}
 use Rattle.powers.proofs.whole.inverse_power.Tie as tie
 
-inverse-in-requires : tie.Need-inverse-in-requires
-inverse-in-requires c κs = search needs
-
-enum-known-why : tie.Need-enum-known-why
-enum-known-why c = search needs
-
-enum-known-halvings : tie.Need-enum-known-halvings
-enum-known-halvings c = search needs
-
-bit-power-requires : tie.Need-bit-power-requires
-bit-power-requires c κs = search needs
-
-same-length : tie.Need-same-length
-same-length c = search needs
-
 returns : tie.Need-returns
 returns c =
-    let call = c .before .before .before .before .before in
-    let s = c .before .before .before .before .before .before .before .before in
+    let (why, call, s) : tie.After-why × tie.After-inverse-in × tie.Start = search in
     let a = s .args in
-    then-refused (0 ∷ 1 ∷ 2 ∷ []) (a .n) (orNotConverged (inverse binary64 (a .n) (slot (a .n) (a .w .now) 0))) (λ b. done 0 (bitPower binary64 (a .n) b (a .e) 64)) (0 ∷ 1 ∷ []) (call .inverse-in .result) (a .w .now) (call .inverse-in .last .0) (call .inverse-in .ensures) _ (c .before .why .given .1) refl
-
-same-length-2 : tie.Need-same-length-2
-same-length-2 c = search needs
+    then-refused (0 ∷ 1 ∷ 2 ∷ []) (a .n) (orNotConverged (inverse binary64 (a .n) (slot (a .n) (a .w .now) 0))) (λ b. done 0 (bitPower binary64 (a .n) b (a .e) 64)) (0 ∷ 1 ∷ []) (call .inverse-in .result) (a .w .now) (call .inverse-in .last .0) (call .inverse-in .ensures) _ (why .why .given .1) refl
 
 returns-2 : tie.Need-returns-2
 returns-2 c =
-    let power = c .before .before in
-    let call = c .before .before .before .before .before .before .before .before .before in
-    let s = c .before .before .before .before .before .before .before .before .before .before .before .before in
+    let (power, halvings, call, s) : tie.After-bit-power × tie.After-halvings × tie.After-inverse-in × tie.Start = search in
     let a = s .args in
     let w1 = call .inverse-in .last .0 in
     let w2 = power .bit-power .last .0 in
-    then-replaced (0 ∷ 1 ∷ 2 ∷ []) (a .n) (orNotConverged (inverse binary64 (a .n) (slot (a .n) (a .w .now) 0))) (λ b. done 0 (bitPower binary64 (a .n) b (a .e) 64)) (0 ∷ 1 ∷ []) (call .inverse-in .result) (a .w .now) w1 (call .inverse-in .ensures) _ (0 ∷ 1 ∷ 2 ∷ []) _ w2 (c .before .before .before .before .before .halvings .given .1)
+    then-replaced (0 ∷ 1 ∷ 2 ∷ []) (a .n) (orNotConverged (inverse binary64 (a .n) (slot (a .n) (a .w .now) 0))) (λ b. done 0 (bitPower binary64 (a .n) b (a .e) 64)) (0 ∷ 1 ∷ []) (call .inverse-in .result) (a .w .now) w1 (call .inverse-in .ensures) _ (0 ∷ 1 ∷ 2 ∷ []) _ w2 (halvings .halvings .given .1)
     (replaced-by (0 ∷ 1 ∷ 2 ∷ []) (a .n) 0 (bitPower binary64 (a .n) (slot (a .n) w1 0) (a .e) 64) w1 w2 (power .bit-power .ensures .result) (power .bit-power .ensures .only)) refl refl
 
 pub inverse-power-spec : {M : Type 1} → statement M
 inverse-power-spec =
     tie.close
     (tie.spec
-    inverse-in-requires
-    enum-known-why
-    enum-known-halvings
-    bit-power-requires
-    same-length
+    (λ c κs. search needs)
+    (λ c. search needs)
+    (λ c. search needs)
+    (λ c κs. search needs)
+    (λ c. search needs)
     returns
-    same-length-2
+    (λ c. search needs)
     returns-2)

@@ -4,7 +4,7 @@ use Rattle.powers.proofs.whole.is_negative.Statement.{statement}
 use Rattle.powers.proofs.whole.is_negative.Tie as tie
 
 returns : tie.Need-returns
-returns c = sign-test (c .args .e) (c .fits .e)
+returns c = let s : tie.Start = search in sign-test (s .args .e) (s .fits .e)
 
 pub is-negative-spec : {M : Type 1} → statement M
 is-negative-spec = tie.close (tie.spec returns)

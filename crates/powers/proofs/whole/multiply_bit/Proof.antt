@@ -5,27 +5,24 @@ use borrow.Author.Needs.{needs}
 use Rattle.powers.proofs.whole.multiply_bit.Statement.{statement}
 use Rattle.powers.proofs.whole.multiply_bit.Tie as tie
 
-mult-requires : tie.Need-mult-requires
-mult-requires c κs = search needs
-
-copy-requires : tie.Need-copy-requires
-copy-requires c κs = search needs
-
-same-length : tie.Need-same-length
-same-length c = search needs
-
 returns : tie.Need-returns
 returns c =
-    let copied = c .before .before in
-    let first = copied .before .before .before .before in
-    let s = first .before .before .before .before in
+    let (copied, first, taken1, s) : tie.After-copy × tie.After-mult × tie.Then1 × tie.Start = search in
     let a = s .args in
-    bit-set binary64 (a .n) (a .w .now) (s .pre) (a .rest) (first .mult .last .0) (copied .copy .last .0) (first .before .before .if1 .taken) (first .mult .ensures) (copied .copy .ensures)
+    bit-set binary64 (a .n) (a .w .now) (s .pre) (a .rest) (first .mult .last .0) (copied .copy .last .0) (taken1 .if1 .taken) (first .mult .ensures) (copied .copy .ensures)
 
 returns-2 : tie.Need-returns-2
 returns-2 c =
-    let s = c .before .before in
-    bit-clear binary64 (s .args .n) (s .args .w .now) (s .pre) (s .args .rest) (c .if1 .left)
+    let left1 : tie.Else1 = search in
+    let s : tie.Start = search in
+    bit-clear binary64 (s .args .n) (s .args .w .now) (s .pre) (s .args .rest) (left1 .if1 .left)
 
 pub multiply-bit-spec : {M : Type 1} → statement M
-multiply-bit-spec = tie.close (tie.spec mult-requires copy-requires same-length returns returns-2)
+multiply-bit-spec =
+    tie.close
+    (tie.spec
+    (λ c κs. search needs)
+    (λ c κs. search needs)
+    (λ c. search needs)
+    returns
+    returns-2)

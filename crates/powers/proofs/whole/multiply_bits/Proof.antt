@@ -18,26 +18,23 @@ abbrev μ-loop : tie.MeasureT-loop
 μ-loop w₀ n e rest₀ w rest = rest
 
 loop-holds : tie.Need-loop-holds Inv-loop μ-loop
-loop-holds c = (0, (sym (div-one _), bits-none binary64 _ _ (c .before .pre .0) _ (c .before .pre .1)))
+loop-holds c = let s : tie.Start Inv-loop μ-loop = search in (0, (sym (div-one _), bits-none binary64 _ _ (s .pre .0) _ (s .pre .1)))
 
 multiply-bit-requires : tie.Need-multiply-bit-requires Inv-loop μ-loop
-multiply-bit-requires c κs = room-kept (c .before .before .before .before .pre .0) (c .before .before .loop .inv .1 .1 .only .long)
+multiply-bit-requires c κs =
+    let head : tie.At-loop Inv-loop μ-loop = search in
+    let s : tie.Start Inv-loop μ-loop = search in
+    room-kept (s .pre .0) (head .loop .inv .1 .1 .only .long)
 
 square-requires : tie.Need-square-requires Inv-loop μ-loop
 square-requires c κs =
-    let bit = c .before .before .before in
-    let at-loop = bit .before .before .before in
-    (room-kept (at-loop .before .before .pre .0) (bit .multiply-bit .kept .0 ∙ at-loop .loop .inv .1 .1 .only .long), (lit≤ tt, lit≤ tt, refl))
-
-loop-less : tie.Need-loop-less Inv-loop μ-loop
-loop-less c = omega arith
+    let (bit, at-loop, s) : tie.After-multiply-bit Inv-loop μ-loop × tie.At-loop Inv-loop μ-loop × tie.Start Inv-loop μ-loop = search in
+    (room-kept (s .pre .0) (bit .multiply-bit .kept .0 ∙ at-loop .loop .inv .1 .1 .only .long), (lit≤ tt, lit≤ tt, refl))
 
 loop-again : tie.Need-loop-again Inv-loop μ-loop
 loop-again c =
-    let squared = c .before .before in
-    let bit = squared .before .before .before .before in
-    let at-loop = bit .before .before .before in
-    let s = at-loop .before .before in
+    let (squared, bit, at-loop, s) :
+    tie.After-square Inv-loop μ-loop × tie.After-multiply-bit Inv-loop μ-loop × tie.At-loop Inv-loop μ-loop × tie.Start Inv-loop μ-loop = search in
     let l = at-loop .loop in
     let i = l .inv .0 in (
       suc i,
@@ -48,18 +45,23 @@ loop-again c =
     )
 
 multiply-bit-requires-2 : tie.Need-multiply-bit-requires-2 Inv-loop μ-loop
-multiply-bit-requires-2 c κs = room-kept (c .before .before .before .before .pre .0) (c .before .before .loop .inv .1 .1 .only .long)
+multiply-bit-requires-2 c κs =
+    let head : tie.At-loop Inv-loop μ-loop = search in
+    let s : tie.Start Inv-loop μ-loop = search in
+    room-kept (s .pre .0) (head .loop .inv .1 .1 .only .long)
 
 same-length : tie.Need-same-length Inv-loop μ-loop
-same-length c = c .before .before .multiply-bit2 .kept .0 ∙ c .before .before .before .before .before .loop .inv .1 .1 .only .long
+same-length c =
+    let multiply-bit2 : tie.After-multiply-bit2 Inv-loop μ-loop = search in
+    let head : tie.At-loop Inv-loop μ-loop = search in
+    multiply-bit2 .multiply-bit2 .kept .0 ∙ head .loop .inv .1 .1 .only .long
 
 returns : tie.Need-returns Inv-loop μ-loop
 returns c =
-    let bit = c .before .before in
-    let at-loop = bit .before .before .before in
-    let s = at-loop .before .before in
+    let (bit, end, at-loop, s) :
+    tie.After-multiply-bit2 Inv-loop μ-loop × tie.After-loop Inv-loop μ-loop × tie.At-loop Inv-loop μ-loop × tie.Start Inv-loop μ-loop = search in
     let l = at-loop .loop in
-    bits-all binary64 (s .args .n) (s .args .w .now) (s .pre .0) (s .args .e) (l .inv .0) (l .rest) (l .w) (bit .multiply-bit2 .last .0) (l .inv .1 .1) (l .inv .1 .0) (bit .multiply-bit2 .ensures) (s .fits .e .fits) (bit .before .before .loop-test .left)
+    bits-all binary64 (s .args .n) (s .args .w .now) (s .pre .0) (s .args .e) (l .inv .0) (l .rest) (l .w) (bit .multiply-bit2 .last .0) (l .inv .1 .1) (l .inv .1 .0) (bit .multiply-bit2 .ensures) (s .fits .e .fits) (end .loop-test .left)
 
 pub multiply-bits-spec : {M : Type 1} → statement M
 multiply-bits-spec =
@@ -70,7 +72,7 @@ multiply-bits-spec =
     loop-holds
     multiply-bit-requires
     square-requires
-    loop-less
+    (λ c. omega arith)
     loop-again
     multiply-bit-requires-2
     same-length

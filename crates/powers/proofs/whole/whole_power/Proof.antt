@@ -15,56 +15,33 @@ use borrow.Author.Needs.{needs}
 use Rattle.powers.proofs.whole.whole_power.Statement.{statement}
 use Rattle.powers.proofs.whole.whole_power.Tie as tie
 
-is-negative-requires : tie.Need-is-negative-requires
-is-negative-requires c κs = search needs
-
-size-of-requires : tie.Need-size-of-requires
-size-of-requires c κs = search needs
-
-inverse-power-requires : tie.Need-inverse-power-requires
-inverse-power-requires c κs = search needs
-
-size-of-requires-2 : tie.Need-size-of-requires-2
-size-of-requires-2 c κs = search needs
-
-bit-power-requires : tie.Need-bit-power-requires
-bit-power-requires c κs = search needs
-
-same-length : tie.Need-same-length
-same-length c = search needs
-
 returns : tie.Need-returns
 returns c =
-    let call = c .before .before in
-    let s = c .before .before .before .before .before .before .before .before in
+    let (call, size-of, taken1, is-negative, s) : tie.After-inverse-power × tie.After-size-of × tie.Then1 × tie.After-is-negative × tie.Start = search in
     let a = s .args in
     let x = slot (a .n) (a .w .now) 0 in
-    let e = ap (negativePower binary64 (a .n) x) (size-read (a .e) (s .fits .e) (call .before .size-of .ensures)) ∙ sym (whole-negative binary64 (a .n) x (a .e) (sign-of (a .e) (s .fits .e) (c .before .before .before .before .before .before .is-negative .ensures) (c .before .before .before .before .before .if1 .taken))) in
+    let e = ap (negativePower binary64 (a .n) x) (size-read (a .e) (s .fits .e) (size-of .size-of .ensures)) ∙ sym (whole-negative binary64 (a .n) x (a .e) (sign-of (a .e) (s .fits .e) (is-negative .is-negative .ensures) (taken1 .if1 .taken))) in
     subst (λ (v : Result (List Float)). Replaced (0 ∷ 1 ∷ 2 ∷ []) (a .n) v (call .inverse-power .result) (a .w .now) (call .inverse-power .last .0)) e (call .inverse-power .ensures)
-
-same-length-2 : tie.Need-same-length-2
-same-length-2 c = search needs
 
 returns-2 : tie.Need-returns-2
 returns-2 c =
-    let call = c .before .before in
-    let s = c .before .before .before .before .before .before .before .before in
+    let (call, size-of2, left1, is-negative, s) : tie.After-bit-power × tie.After-size-of2 × tie.Else1 × tie.After-is-negative × tie.Start = search in
     let a = s .args in
     let x = slot (a .n) (a .w .now) 0 in
     let w1 = call .bit-power .last .0 in
-    let e = ap (λ (k : ℕ). done 0 (bitPower binary64 (a .n) x k 64)) (size-read (a .e) (s .fits .e) (call .before .size-of2 .ensures)) ∙ sym (whole-positive binary64 (a .n) x (a .e) (sign-of (a .e) (s .fits .e) (c .before .before .before .before .before .before .is-negative .ensures) (c .before .before .before .before .before .if1 .left))) in
+    let e = ap (λ (k : ℕ). done 0 (bitPower binary64 (a .n) x k 64)) (size-read (a .e) (s .fits .e) (size-of2 .size-of2 .ensures)) ∙ sym (whole-positive binary64 (a .n) x (a .e) (sign-of (a .e) (s .fits .e) (is-negative .is-negative .ensures) (left1 .if1 .left))) in
     subst (λ (v : Result (List Float)). Replaced (0 ∷ 1 ∷ 2 ∷ []) (a .n) v (Done 0) (a .w .now) w1) e (replaced-by (0 ∷ 1 ∷ 2 ∷ []) (a .n) 0 _ (a .w .now) w1 (call .bit-power .ensures .result) (call .bit-power .ensures .only))
 
 pub whole-power-spec : {M : Type 1} → statement M
 whole-power-spec =
     tie.close
     (tie.spec
-    is-negative-requires
-    size-of-requires
-    inverse-power-requires
-    size-of-requires-2
-    bit-power-requires
-    same-length
+    (λ c κs. search needs)
+    (λ c κs. search needs)
+    (λ c κs. search needs)
+    (λ c κs. search needs)
+    (λ c κs. search needs)
+    (λ c. search needs)
     returns
-    same-length-2
+    (λ c. search needs)
     returns-2)

@@ -5,68 +5,35 @@ use borrow.Author.Needs.{needs}
 use Rattle.questions.proofs.output.deliver_both.Statement.{statement}
 use Rattle.questions.proofs.output.deliver_both.Tie as tie
 
-enum-known-outcome : tie.Need-enum-known-outcome
-enum-known-outcome c = search needs
-
-copy-out-requires : tie.Need-copy-out-requires
-copy-out-requires c κs = search needs
-
-copy-out-requires-2 : tie.Need-copy-out-requires-2
-copy-out-requires-2 c κs = search needs
-
-clear-where-requires : tie.Need-clear-where-requires
-clear-where-requires c κs = search needs
-
-done-requires : tie.Need-done-requires
-done-requires c κs = search needs
-
-enum-known-outcome-2 : tie.Need-enum-known-outcome-2
-enum-known-outcome-2 c = search needs
-
-clear-where-requires-2 : tie.Need-clear-where-requires-2
-clear-where-requires-2 c κs = search needs
-
-refused-requires : tie.Need-refused-requires
-refused-requires c κs = search needs
-
-same-length : tie.Need-same-length
-same-length c = search needs
-
-same-length-2 : tie.Need-same-length-2
-same-length-2 c = search needs
-
-same-length-3 : tie.Need-same-length-3
-same-length-3 c = search needs
-
 returns : tie.Need-returns
 returns c =
-    let a = c .before .before .before .before .before .before .before .before .before .before .before .before .before .before .before .before .before .before .before .before .before .args in
-    both-delivered (a .clears) (a .outcome) (c .done .result .outcome) _ _ (now (a .first)) (now (a .second)) (now (a .w)) (c .before .before .before .clear-where .last .0) (c .before .before .before .before .before .before .before .before .before .before .before .before .copy-out .last .1 .1 .0) (c .before .before .before .before .before .before .before .copy-out2 .last .1 .1 .0) _ (c .before .before .before .before .before .before .before .before .before .before .before .before .before .before .before .before .outcome .given .1) (c .done .ensures)
-    (c .before .before .before .before .before .before .before .before .before .before .before .before .copy-out .ensures) (c .before .before .before .before .before .before .before .copy-out2 .ensures) (c .before .before .before .clear-where .ensures)
-
-same-length-4 : tie.Need-same-length-4
-same-length-4 c = search needs
+    let (done, clear-where, copy-out2, copy-out, outcome, s) :
+    tie.After-done × tie.After-clear-where × tie.After-copy-out2 × tie.After-copy-out × tie.After-outcome × tie.Start = search in
+    let a = s .args in
+    both-delivered (a .clears) (a .outcome) (done .done .result .outcome) _ _ (now (a .first)) (now (a .second)) (now (a .w)) (clear-where .clear-where .last .0) (copy-out .copy-out .last .1 .1 .0) (copy-out2 .copy-out2 .last .1 .1 .0) _ (outcome .outcome .given .1) (done .done .ensures)
+    (copy-out .copy-out .ensures) (copy-out2 .copy-out2 .ensures) (clear-where .clear-where .ensures)
 
 returns-2 : tie.Need-returns-2
 returns-2 c =
-    let a = c .before .before .before .before .before .before .before .before .before .before .before .args in
-    both-kept (a .clears) (a .outcome) (c .refused .result .outcome) _ _ (now (a .first)) (now (a .second)) (now (a .w)) (c .before .before .before .clear-where2 .last .0) _ (c .before .before .before .before .before .before .outcome2 .given .1) (c .refused .ensures) (c .before .before .before .clear-where2 .ensures)
+    let (refused, clear-where2, outcome2, s) : tie.After-refused × tie.After-clear-where2 × tie.After-outcome2 × tie.Start = search in
+    let a = s .args in
+    both-kept (a .clears) (a .outcome) (refused .refused .result .outcome) _ _ (now (a .first)) (now (a .second)) (now (a .w)) (clear-where2 .clear-where2 .last .0) _ (outcome2 .outcome2 .given .1) (refused .refused .ensures) (clear-where2 .clear-where2 .ensures)
 
 pub deliver-both-spec : {M : Type 1} → statement M
 deliver-both-spec =
     tie.close
     (tie.spec
-    enum-known-outcome
-    copy-out-requires
-    copy-out-requires-2
-    clear-where-requires
-    done-requires
-    enum-known-outcome-2
-    clear-where-requires-2
-    refused-requires
-    same-length
-    same-length-2
-    same-length-3
+    (λ c. search needs)
+    (λ c κs. search needs)
+    (λ c κs. search needs)
+    (λ c κs. search needs)
+    (λ c κs. search needs)
+    (λ c. search needs)
+    (λ c κs. search needs)
+    (λ c κs. search needs)
+    (λ c. search needs)
+    (λ c. search needs)
+    (λ c. search needs)
     returns
-    same-length-4
+    (λ c. search needs)
     returns-2)

@@ -5,13 +5,13 @@ use Rattle.questions.proofs.question.ask_direction_fits.Statement.{stat
 use Rattle.questions.proofs.question.ask_direction_fits.Tie as tie
 
 returns : tie.Need-returns
-returns c = rw (ne-eqb _ _ (c .if1 .taken))
-
-ask-requires : tie.Need-ask-requires
-ask-requires c κs = search needs
+returns c = let taken1 : tie.Then1 = search in rw (ne-eqb _ _ (taken1 .if1 .taken))
 
 returns-2 : tie.Need-returns-2
-returns-2 c = rw (eq-eqb _ _ (c .before .if1 .left)) (c .ask .ensures)
+returns-2 c =
+    let ask : tie.After-ask = search in
+    let left1 : tie.Else1 = search in
+    rw (eq-eqb _ _ (left1 .if1 .left)) (ask .ask .ensures)
 
 pub ask-direction-fits-spec : {M : Type 1} → statement M
-ask-direction-fits-spec = tie.close (tie.spec returns ask-requires returns-2)
+ask-direction-fits-spec = tie.close (tie.spec returns (λ c κs. search needs) returns-2)

@@ -9,36 +9,36 @@ use Rattle.questions.proofs.QuestionLaws.{told, single, all-yes, alone-
 use Rattle.questions.proofs.question.ask_matrix.Statement.{statement}
 use Rattle.questions.proofs.question.ask_matrix.Tie as tie
 
-ask-shape-requires : tie.Need-ask-shape-requires
-ask-shape-requires c κs = search needs
-
-enum-told : tie.Need-enum-told
-enum-told c = search needs
-
-enum-told-2 : tie.Need-enum-told-2
-enum-told-2 c = search needs
-
 returns : tie.Need-returns
 returns c =
-    let a = c .before .before .before .before .args in
-    let shape = c .before .before .ask-shape in
-    shape-no ofCondExpm (unary (a .rows) (a .columns) (now (a .a)) (a .out ∷ []) (a .room)) (shape .result) (shape .ensures) (c .enum-told2 .given .1)
+    let (told2, ask-shape, s) : tie.After-enum-told2 × tie.After-ask-shape × tie.Start = search in
+    let a = s .args in
+    let shape = ask-shape .ask-shape in
+    shape-no ofCondExpm (unary (a .rows) (a .columns) (now (a .a)) (a .out ∷ []) (a .room)) (shape .result) (shape .ensures) (told2 .enum-told2 .given .1)
 
 ask-entries-requires : tie.Need-ask-entries-requires
 ask-entries-requires c κs =
-    let a = c .before .before .before .before .args in
-    let shape = c .before .before .ask-shape in
-    alone-shape false anywhere false (unary (a .rows) (a .columns) (now (a .a)) (a .out ∷ []) (a .room)) (all-yes (told (shape .result) (shape .ensures)) (c .enum-told .given .1)) .lies
+    let (enum-told, ask-shape, s) : tie.After-enum-told × tie.After-ask-shape × tie.Start = search in
+    let a = s .args in
+    let shape = ask-shape .ask-shape in
+    alone-shape false anywhere false (unary (a .rows) (a .columns) (now (a .a)) (a .out ∷ []) (a .room)) (all-yes (told (shape .result) (shape .ensures)) (enum-told .enum-told .given .1)) .lies
 
 returns-2 : tie.Need-returns-2
 returns-2 c =
-    let a = c .before .before .before .before .before .args in
-    let shape = c .before .before .before .ask-shape in
+    let (ask-entries, enum-told, ask-shape, s) : tie.After-ask-entries × tie.After-enum-told × tie.After-ask-shape × tie.Start = search in
+    let a = s .args in
+    let shape = ask-shape .ask-shape in
     let call : Call = unary (a .rows) (a .columns) (now (a .a)) (a .out ∷ []) (a .room) in
-    shape-passed ofCondExpm call (shape .result) (shape .ensures) (c .before .enum-told .given .1) (c .ask-entries .result)
-    (single (c .ask-entries .result) (c .ask-entries .ensures) .asks ∙ sym (numbers-alone call))
+    shape-passed ofCondExpm call (shape .result) (shape .ensures) (enum-told .enum-told .given .1) (ask-entries .ask-entries .result)
+    (single (ask-entries .ask-entries .result) (ask-entries .ask-entries .ensures) .asks ∙ sym (numbers-alone call))
 
 pub ask-matrix-spec : {M : Type 1} → statement M
 ask-matrix-spec =
     tie.close
-    (tie.spec ask-shape-requires enum-told enum-told-2 returns ask-entries-requires returns-2)
+    (tie.spec
+    (λ c κs. search needs)
+    (λ c. search needs)
+    (λ c. search needs)
+    returns
+    ask-entries-requires
+    returns-2)

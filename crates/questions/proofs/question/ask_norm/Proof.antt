@@ -3,14 +3,11 @@ use borrow.Author.Needs.{needs}
 use Rattle.questions.proofs.question.ask_norm.Statement.{statement}
 use Rattle.questions.proofs.question.ask_norm.Tie as tie
 
-is-finite-requires : tie.Need-is-finite-requires
-is-finite-requires c κs = search needs
-
-ask-requires : tie.Need-ask-requires
-ask-requires c κs = search needs
-
 returns : tie.Need-returns
-returns c = rw (c .before .is-finite .ensures) at (c .ask .ensures)
+returns c =
+    let ask : tie.After-ask = search in
+    let is-finite : tie.After-is-finite = search in
+    rw (is-finite .is-finite .ensures) at (ask .ask .ensures)
 
 pub ask-norm-spec : {M : Type 1} → statement M
-ask-norm-spec = tie.close (tie.spec is-finite-requires ask-requires returns)
+ask-norm-spec = tie.close (tie.spec (λ c κs. search needs) (λ c κs. search needs) returns)

@@ -4,21 +4,18 @@ use Rattle.questions.proofs.QuestionLaws.{single, joined}
 use Rattle.questions.proofs.question.ask_order.Statement.{statement}
 use Rattle.questions.proofs.question.ask_order.Tie as tie
 
-ask-rows-requires : tie.Need-ask-rows-requires
-ask-rows-requires c κs = search needs
-
-ask-square-requires : tie.Need-ask-square-requires
-ask-square-requires c κs = search needs
-
-first-no-requires : tie.Need-first-no-requires
-first-no-requires c κs = search needs
-
 returns : tie.Need-returns
 returns c =
-    let rows = c .before .before .ask-rows in
-    let square = c .before .ask-square in
-    joined (c .first-no .result) (single (rows .result) (rows .ensures)) (single (square .result) (square .ensures)) (c .first-no .ensures) .asks
+    let (first-no, ask-square, ask-rows) : tie.After-first-no × tie.After-ask-square × tie.After-ask-rows = search in
+    let rows = ask-rows .ask-rows in
+    let square = ask-square .ask-square in
+    joined (first-no .first-no .result) (single (rows .result) (rows .ensures)) (single (square .result) (square .ensures)) (first-no .first-no .ensures) .asks
 
 pub ask-order-spec : {M : Type 1} → statement M
 ask-order-spec =
-    tie.close (tie.spec ask-rows-requires ask-square-requires first-no-requires returns)
+    tie.close
+    (tie.spec
+    (λ c κs. search needs)
+    (λ c κs. search needs)
+    (λ c κs. search needs)
+    returns)

@@ -7,16 +7,14 @@ use Rattle.questions.proofs.question.ask_positive.Statement.{statement}
 use Rattle.questions.proofs.question.ask_positive.Tie as tie
 
 returns : tie.Need-returns
-returns c = rw (ne-eqb _ _ (c .if1 .taken))
-
-shared-slice-read-ask : tie.Need-shared-slice-read-ask
-shared-slice-read-ask c = search needs
-
-ask-requires : tie.Need-ask-requires
-ask-requires c κs = search needs
+returns c = let taken1 : tie.Then1 = search in rw (ne-eqb _ _ (taken1 .if1 .taken))
 
 returns-2 : tie.Need-returns-2
-returns-2 c = rw (eq-eqb _ _ (c .before .before .if1 .left), ← +zero-bits binary64) (c .ask .ensures)
+returns-2 c =
+    let ask : tie.After-ask = search in
+    let left1 : tie.Else1 = search in
+    rw (eq-eqb _ _ (left1 .if1 .left), ← +zero-bits binary64) (ask .ask .ensures)
 
 pub ask-positive-spec : {M : Type 1} → statement M
-ask-positive-spec = tie.close (tie.spec returns shared-slice-read-ask ask-requires returns-2)
+ask-positive-spec =
+    tie.close (tie.spec returns (λ c. search needs) (λ c κs. search needs) returns-2)

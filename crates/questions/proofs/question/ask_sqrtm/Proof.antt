@@ -9,36 +9,36 @@ use Rattle.questions.proofs.QuestionLaws.{single, rest-no, rest-asked, 
 use Rattle.questions.proofs.question.ask_sqrtm.Statement.{statement}
 use Rattle.questions.proofs.question.ask_sqrtm.Tie as tie
 
-ask-matrix-requires : tie.Need-ask-matrix-requires
-ask-matrix-requires c κs = search needs
-
-enum-told : tie.Need-enum-told
-enum-told c = search needs
-
-enum-told-2 : tie.Need-enum-told-2
-enum-told-2 c = search needs
-
 returns : tie.Need-returns
 returns c =
-    let a = c .before .before .before .before .args in
-    let matrix = c .before .before .ask-matrix in
-    rest-no alone false nonnegative false (unary (a .rows) (a .columns) (now (a .a)) (a .out ∷ []) (a .room)) (matrix .result) (matrix .ensures) (c .enum-told2 .given .1)
+    let (told2, ask-matrix, s) : tie.After-enum-told2 × tie.After-ask-matrix × tie.Start = search in
+    let a = s .args in
+    let matrix = ask-matrix .ask-matrix in
+    rest-no alone false nonnegative false (unary (a .rows) (a .columns) (now (a .a)) (a .out ∷ []) (a .room)) (matrix .result) (matrix .ensures) (told2 .enum-told2 .given .1)
 
 ask-nonnegative-requires : tie.Need-ask-nonnegative-requires
 ask-nonnegative-requires c κs =
-    let a = c .before .before .before .before .args in
-    let matrix = c .before .before .ask-matrix in
-    accepted false anywhere false (unary (a .rows) (a .columns) (now (a .a)) (a .out ∷ []) (a .room)) (matrix .result) (matrix .ensures) (c .enum-told .given .1) .shape .some
+    let (told, ask-matrix, s) : tie.After-enum-told × tie.After-ask-matrix × tie.Start = search in
+    let a = s .args in
+    let matrix = ask-matrix .ask-matrix in
+    accepted false anywhere false (unary (a .rows) (a .columns) (now (a .a)) (a .out ∷ []) (a .room)) (matrix .result) (matrix .ensures) (told .enum-told .given .1) .shape .some
 
 returns-2 : tie.Need-returns-2
 unfolding firstNo _>>=_
 returns-2 c =
-    let a = c .before .before .before .before .before .args in
-    let matrix = c .before .before .before .ask-matrix in
-    rest-asked alone false nonnegative false (unary (a .rows) (a .columns) (now (a .a)) (a .out ∷ []) (a .room)) (matrix .result) (c .ask-nonnegative .result) (matrix .ensures) (c .before .enum-told .given .1)
-    (single (c .ask-nonnegative .result) (c .ask-nonnegative .ensures) .asks)
+    let (ask-nonnegative, told, ask-matrix, s) : tie.After-ask-nonnegative × tie.After-enum-told × tie.After-ask-matrix × tie.Start = search in
+    let a = s .args in
+    let matrix = ask-matrix .ask-matrix in
+    rest-asked alone false nonnegative false (unary (a .rows) (a .columns) (now (a .a)) (a .out ∷ []) (a .room)) (matrix .result) (ask-nonnegative .ask-nonnegative .result) (matrix .ensures) (told .enum-told .given .1)
+    (single (ask-nonnegative .ask-nonnegative .result) (ask-nonnegative .ask-nonnegative .ensures) .asks)
 
 pub ask-sqrtm-spec : {M : Type 1} → statement M
 ask-sqrtm-spec =
     tie.close
-    (tie.spec ask-matrix-requires enum-told enum-told-2 returns ask-nonnegative-requires returns-2)
+    (tie.spec
+    (λ c κs. search needs)
+    (λ c. search needs)
+    (λ c. search needs)
+    returns
+    ask-nonnegative-requires
+    returns-2)

@@ -8,20 +8,19 @@ use Rattle.questions.proofs.QuestionLaws.{found-ends, single, stops}
 use Rattle.questions.proofs.question.first_no.Statement.{statement}
 use Rattle.questions.proofs.question.first_no.Tie as tie
 
-enum-told : tie.Need-enum-told
-enum-told c = search needs
-
-enum-told-2 : tie.Need-enum-told-2
-enum-told-2 c = search needs
-
 returns : tie.Need-returns
 unfolding firstNo _>>=_
-returns c = let a = c .before .before .args in rw (c .enum-told .given .1) (sym (found-ends (a .next)))
+returns c =
+    let told : tie.After-enum-told = search in
+    let s : tie.Start = search in
+    let a = s .args in rw (told .enum-told .given .1) (sym (found-ends (a .next)))
 
 returns-2 : tie.Need-returns-2
 returns-2 c =
-    let a = c .before .before .args in
-    stops (found (a .next) ∷ []) (single (a .first) refl) (c .enum-told2 .given .1) .asks
+    let told2 : tie.After-enum-told2 = search in
+    let s : tie.Start = search in
+    let a = s .args in
+    stops (found (a .next) ∷ []) (single (a .first) refl) (told2 .enum-told2 .given .1) .asks
 
 pub first-no-spec : {M : Type 1} → statement M
-first-no-spec = tie.close (tie.spec enum-told enum-told-2 returns returns-2)
+first-no-spec = tie.close (tie.spec (λ c. search needs) (λ c. search needs) returns returns-2)

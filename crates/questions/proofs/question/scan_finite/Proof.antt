@@ -30,79 +30,86 @@ abbrev μ-rows : tie.MeasureT-rows
 μ-rows a rows columns answer₀ i₀ answer i = rows - i
 
 -- the entry that is read lies in the matrix
-inside :
-    (c : tie.In-columns Inv-columns μ-columns Inv-rows μ-rows)
-    → c .before .before .before .rows .i * c .before .before .before .before .before .args .columns + c .before .columns .j
-    < length (c .before .before .before .before .before .args .a .now)
+inside : (c : tie.In-columns Inv-columns μ-columns Inv-rows μ-rows) →
+    let (columns, rows, s) :
+    tie.At-columns Inv-columns μ-columns Inv-rows μ-rows × tie.At-rows Inv-columns μ-columns Inv-rows μ-rows
+    × tie.Start Inv-columns μ-columns Inv-rows μ-rows = search in
+    rows .rows .i * s .args .columns + columns .columns .j
+    < length (s .args .a .now)
 inside c =
-    let a = c .before .before .before .before .before .args in
-    omega (arith, index-lt {r = a .rows} {c = a .columns} {i = c .before .before .before .rows .i} {j = c .before .columns .j} (omega arith) (omega arith))
+    let (columns, rows, s) :
+    tie.At-columns Inv-columns μ-columns Inv-rows μ-rows × tie.At-rows Inv-columns μ-columns Inv-rows μ-rows
+    × tie.Start Inv-columns μ-columns Inv-rows μ-rows = search in
+    let a = s .args in
+    omega (arith, index-lt {r = a .rows} {c = a .columns} {i = rows .rows .i} {j = columns .columns .j} (omega arith) (omega arith))
 
 rows-holds : tie.Need-rows-holds Inv-columns μ-columns Inv-rows μ-rows
-rows-holds c = (omega arith, refl, λ k h. absurd (omega (arith, zero-mul (c .before .args .columns))))
+rows-holds c =
+    let s : tie.Start Inv-columns μ-columns Inv-rows μ-rows = search in
+    (omega arith, refl, λ k h. absurd (omega (arith, zero-mul (s .args .columns))))
 
 columns-holds : tie.Need-columns-holds Inv-columns μ-columns Inv-rows μ-rows
-columns-holds c = (omega arith, omega arith, c .before .rows .inv .1, λ k h. c .before .rows .inv .2 k (omega arith))
+columns-holds c =
+    let rows : tie.At-rows Inv-columns μ-columns Inv-rows μ-rows = search in
+    (omega arith, omega arith, rows .rows .inv .1, λ k h. rows .rows .inv .2 k (omega arith))
 
 mul-k : tie.Need-mul-k Inv-columns μ-columns Inv-rows μ-rows
-mul-k c = omega (arith, inside c)
+mul-k c = let columns : tie.In-columns Inv-columns μ-columns Inv-rows μ-rows = search in omega (arith, inside columns)
 
 add-k : tie.Need-add-k Inv-columns μ-columns Inv-rows μ-rows
-add-k c = omega (arith, inside c)
+add-k c = let columns : tie.In-columns Inv-columns μ-columns Inv-rows μ-rows = search in omega (arith, inside columns)
 
 mul-is-finite : tie.Need-mul-is-finite Inv-columns μ-columns Inv-rows μ-rows
-mul-is-finite c = omega (arith, inside c)
+mul-is-finite c = let columns : tie.In-columns Inv-columns μ-columns Inv-rows μ-rows = search in omega (arith, inside columns)
 
 shared-slice-read-is-finite : tie.Need-shared-slice-read-is-finite Inv-columns μ-columns Inv-rows μ-rows
-shared-slice-read-is-finite c = inside (c .before)
-
-is-finite-requires : tie.Need-is-finite-requires Inv-columns μ-columns Inv-rows μ-rows
-is-finite-requires c κs = search needs
-
-add-j : tie.Need-add-j Inv-columns μ-columns Inv-rows μ-rows
-add-j c = search needs
-
-columns-less : tie.Need-columns-less Inv-columns μ-columns Inv-rows μ-rows
-columns-less c = search needs
+shared-slice-read-is-finite c = let columns : tie.In-columns Inv-columns μ-columns Inv-rows μ-rows = search in inside columns
 
 columns-again : tie.Need-columns-again Inv-columns μ-columns Inv-rows μ-rows
 columns-again c =
-    let l = c .before .before .before .before .columns in
-    let i = c .before .before .before .before .before .before .rows .i in
-    let a = c .before .before .before .before .before .before .before .before .args in (
+    let (left1, is-finite, columns, rows, s) :
+    tie.Else1 Inv-columns μ-columns Inv-rows μ-rows × tie.After-is-finite Inv-columns μ-columns Inv-rows μ-rows
+    × tie.At-columns Inv-columns μ-columns Inv-rows μ-rows × tie.At-rows Inv-columns μ-columns Inv-rows μ-rows
+    × tie.Start Inv-columns μ-columns Inv-rows μ-rows = search in
+    let l = columns .columns in
+    let i = rows .rows .i in
+    let a = s .args in (
       l .inv .0,
       omega arith,
       l .inv .2,
       λ k h. below-more (λ (k : ℕ). finite (item (a .a .now) k) ≡ true) (i * a .columns + l .j) (l .inv .3)
-          (sym (c .before .is-finite .ensures) ∙ not-false _ (c .if1 .left)) k (omega arith),
+          (sym (is-finite .is-finite .ensures) ∙ not-false _ (left1 .if1 .left)) k (omega arith),
     )
-
-add-i : tie.Need-add-i Inv-columns μ-columns Inv-rows μ-rows
-add-i c = search needs
-
-rows-less : tie.Need-rows-less Inv-columns μ-columns Inv-rows μ-rows
-rows-less c = search needs
 
 rows-again : tie.Need-rows-again Inv-columns μ-columns Inv-rows μ-rows
 rows-again c =
-    let v = c .before .columns .inv in
-    let i = c .before .before .before .rows .i in
-    let a = c .before .before .before .before .before .args in
+    let (columns, rows, s) :
+    tie.At-columns Inv-columns μ-columns Inv-rows μ-rows × tie.At-rows Inv-columns μ-columns Inv-rows μ-rows
+    × tie.Start Inv-columns μ-columns Inv-rows μ-rows = search in
+    let v = columns .columns .inv in
+    let i = rows .rows .i in
+    let a = s .args in
     (omega arith, v .2, λ k h. v .3 k (omega (arith, more-rows i (a .columns))))
 
 returns : tie.Need-returns Inv-columns μ-columns Inv-rows μ-rows
 returns c number =
-    let v = c .before .rows .inv in
-    let a = c .before .before .before .args in
-    let h : c .before .rows .i ≡ a .rows = omega arith in
+    let rows : tie.At-rows Inv-columns μ-columns Inv-rows μ-rows = search in
+    let s : tie.Start Inv-columns μ-columns Inv-rows μ-rows = search in
+    let v = rows .rows .inv in
+    let a = s .args in
+    let h : rows .rows .i ≡ a .rows = omega arith in
     rw (v .1) (scanned-none (a .columns) (a .a .now) (λ k l. v .2 k (rw h (omega arith))) number)
 
 returns-2 : tie.Need-returns-2 Inv-columns μ-columns Inv-rows μ-rows
 returns-2 c =
-    let l = c .before .before .before .before .columns in
-    let a = c .before .before .before .before .before .before .before .before .args in
-    scanned-at (a .columns) (a .a .now) (c .before .before .before .before .before .before .rows .i) (l .j) (omega arith)
-    (inside (c .before .before .before)) (l .inv .3) (sym (c .before .is-finite .ensures) ∙ not-true _ (c .if1 .taken))
+    let (taken1, is-finite, at-columns, columns, rows, s) :
+    tie.Then1 Inv-columns μ-columns Inv-rows μ-rows × tie.After-is-finite Inv-columns μ-columns Inv-rows μ-rows
+    × tie.In-columns Inv-columns μ-columns Inv-rows μ-rows × tie.At-columns Inv-columns μ-columns Inv-rows μ-rows
+    × tie.At-rows Inv-columns μ-columns Inv-rows μ-rows × tie.Start Inv-columns μ-columns Inv-rows μ-rows = search in
+    let l = columns .columns in
+    let a = s .args in
+    scanned-at (a .columns) (a .a .now) (rows .rows .i) (l .j) (omega arith)
+    (inside at-columns) (l .inv .3) (sym (is-finite .is-finite .ensures) ∙ not-true _ (taken1 .if1 .taken))
 
 pub scan-finite-spec : {M : Type 1} → statement M
 scan-finite-spec =
@@ -118,12 +125,12 @@ scan-finite-spec =
     add-k
     mul-is-finite
     shared-slice-read-is-finite
-    is-finite-requires
-    add-j
-    columns-less
+    (λ c κs. search needs)
+    (λ c. search needs)
+    (λ c. search needs)
     columns-again
-    add-i
-    rows-less
+    (λ c. search needs)
+    (λ c. search needs)
     rows-again
     returns
     returns-2)

@@ -17,20 +17,26 @@ large : (x : Float) → T (fits binary64 x) → T (lt (fin false 1 (negsuc 79)) 
 unfolding fits le mul ofInt rootTolerance
 large x h l = root-not-below binary64 x (fin false 1 (negsuc 39)) (fin false 1 (negsuc 79)) (rootTolerance binary64) h tt tt tt (refl, refl) tt l
 
-sqrt-requires : tie.Need-sqrt-requires
-sqrt-requires c κs = search needs
-
 returns : tie.Need-returns
 unfolding ofBits
-returns c = sym (ap tested (large (c .before .args .sum) (subst T (sym (c .before .good .0 .1)) tt) (subst T (sym (c .if1 .taken)) tt)))
+returns c =
+    let taken1 : tie.Then1 = search in
+    let s : tie.Start = search in
+    sym (ap tested (large (s .args .sum) (subst T (sym (s .good .0 .1)) tt) (subst T (sym (taken1 .if1 .taken)) tt)))
 
 returns-2 : tie.Need-returns-2
 unfolding ofBits ofInt rootTolerance
-returns-2 c = sym (ap tested (c .if2 .taken)) ∙ ap (λ (v : Float). tested (lt v (rootTolerance binary64))) (c .before .sqrt .ensures)
+returns-2 c =
+    let taken2 : tie.Then2 = search in
+    let sqrt : tie.After-sqrt = search in
+    sym (ap tested (taken2 .if2 .taken)) ∙ ap (λ (v : Float). tested (lt v (rootTolerance binary64))) (sqrt .sqrt .ensures)
 
 returns-3 : tie.Need-returns-3
 unfolding ofBits ofInt rootTolerance
-returns-3 c = sym (ap tested (c .if2 .left)) ∙ ap (λ (v : Float). tested (lt v (rootTolerance binary64))) (c .before .sqrt .ensures)
+returns-3 c =
+    let left2 : tie.Else2 = search in
+    let sqrt : tie.After-sqrt = search in
+    sym (ap tested (left2 .if2 .left)) ∙ ap (λ (v : Float). tested (lt v (rootTolerance binary64))) (sqrt .sqrt .ensures)
 
 pub root-verdict-spec : {M : Type 1} → statement M
-root-verdict-spec = tie.close (tie.spec returns sqrt-requires returns-2 returns-3)
+root-verdict-spec = tie.close (tie.spec returns (λ c κs. search needs) returns-2 returns-3)

@@ -6,47 +6,26 @@ use borrow.Author.Needs.{needs}
 use Rattle.roots.proofs.root_derivative.derive_root.Statement.{statement}
 use Rattle.roots.proofs.root_derivative.derive_root.Tie as tie
 
-slice-read-scalar-derivative : tie.Need-slice-read-scalar-derivative
-slice-read-scalar-derivative c = search needs
-
-slice-read-scalar-derivative-2 : tie.Need-slice-read-scalar-derivative-2
-slice-read-scalar-derivative-2 c = search needs
-
-scalar-derivative-requires : tie.Need-scalar-derivative-requires
-scalar-derivative-requires c κs = search needs
-
-slice-write-w : tie.Need-slice-write-w
-slice-write-w c = search needs
-
-same-length : tie.Need-same-length
-same-length c = search needs
-
 returns : tie.Need-returns
 returns c =
-    let s = c .before .before .before .before .before in
-    derived-number binary64 (s .args .n) (s .args .w .now) (s .pre .0) (c .scalar-derivative .result) _ (c .before .before .before .if1 .taken) (c .scalar-derivative .ensures) refl
-
-sylvester-requires : tie.Need-sylvester-requires
-sylvester-requires c κs = search needs
-
-same-length-2 : tie.Need-same-length-2
-same-length-2 c = search needs
+    let (scalar, taken1, s) : tie.After-scalar-derivative × tie.Then1 × tie.Start = search in
+    derived-number binary64 (s .args .n) (s .args .w .now) (s .pre .0) (scalar .scalar-derivative .result) _ (taken1 .if1 .taken) (scalar .scalar-derivative .ensures) refl
 
 returns-2 : tie.Need-returns-2
 returns-2 c =
-    let s = c .before .before .before .before .before .before in
-    derived-above binary64 (s .args .n) (s .args .w .now) (s .pre .0) (c .before .before .sylvester .result) (c .before .before .sylvester .last .0) (c .before .before .before .before .if1 .left) (c .before .before .sylvester .ensures)
+    let (sylvester, left1, s) : tie.After-sylvester × tie.Else1 × tie.Start = search in
+    derived-above binary64 (s .args .n) (s .args .w .now) (s .pre .0) (sylvester .sylvester .result) (sylvester .sylvester .last .0) (left1 .if1 .left) (sylvester .sylvester .ensures)
 
 pub derive-root-spec : {M : Type 1} → statement M
 derive-root-spec =
     tie.close
     (tie.spec
-    slice-read-scalar-derivative
-    slice-read-scalar-derivative-2
-    scalar-derivative-requires
-    slice-write-w
-    same-length
+    (λ c. search needs)
+    (λ c. search needs)
+    (λ c κs. search needs)
+    (λ c. search needs)
+    (λ c. search needs)
     returns
-    sylvester-requires
-    same-length-2
+    (λ c κs. search needs)
+    (λ c. search needs)
     returns-2)

@@ -6,37 +6,29 @@ use borrow.Author.Needs.{needs}
 use Rattle.roots.proofs.root_derivative.load_system.Statement.{statement}
 use Rattle.roots.proofs.root_derivative.load_system.Tie as tie
 
-mul-size : tie.Need-mul-size
-mul-size c = search needs
-
-small-room-requires : tie.Need-small-room-requires
-small-room-requires c κs = search needs
-
-array-borrow-prefix-s : tie.Need-array-borrow-prefix-s
-array-borrow-prefix-s c = search needs
-
 slice-aggregate-fill-system : tie.Need-slice-aggregate-fill-system
-slice-aggregate-fill-system c = sym (length-take-le _ _ (omega (arith, c .before .before .before .before .pre .1, c .before .before .small-room .ensures)))
+slice-aggregate-fill-system c =
+    let small-room : tie.After-small-room = search in
+    let s : tie.Start = search in
+    sym (length-take-le _ _ (omega (arith, s .pre .1, small-room .small-room .ensures)))
 
 fill-system-requires : tie.Need-fill-system-requires
 fill-system-requires c κs =
-    let s = c .before .before .before .before in
-    (s .pre .0, s .pre .1, s .pre .2, length-take-le _ _ (omega (arith, s .pre .1, c .before .before .small-room .ensures)))
-
-same-length : tie.Need-same-length
-same-length c = search needs
+    let small-room : tie.After-small-room = search in
+    let s : tie.Start = search in
+    (s .pre .0, s .pre .1, s .pre .2, length-take-le _ _ (omega (arith, s .pre .1, small-room .small-room .ensures)))
 
 returns : tie.Need-returns
-returns c = c .before .before .before .fill-system .ensures
+returns c = let fill-system : tie.After-fill-system = search in fill-system .fill-system .ensures
 
 pub load-system-spec : {M : Type 1} → statement M
 load-system-spec =
     tie.close
     (tie.spec
-    mul-size
-    small-room-requires
-    array-borrow-prefix-s
+    (λ c. search needs)
+    (λ c κs. search needs)
+    (λ c. search needs)
     slice-aggregate-fill-system
     fill-system-requires
-    same-length
+    (λ c. search needs)
     returns)

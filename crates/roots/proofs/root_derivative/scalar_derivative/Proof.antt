@@ -6,11 +6,11 @@ use Rattle.roots.proofs.root_derivative.scalar_derivative.Tie as tie
 
 returns : tie.Need-returns
 unfolding ofBits scalarDerivative
-returns c = rw (c .if1 .taken)
+returns c = let taken1 : tie.Then1 = search in rw (taken1 .if1 .taken)
 
 returns-2 : tie.Need-returns-2
 unfolding ofBits scalarDerivative
-returns-2 c = rw (c .if1 .left)
+returns-2 c = let left1 : tie.Else1 = search in rw (left1 .if1 .left)
 
 pub scalar-derivative-spec : {M : Type 1} → statement M
 scalar-derivative-spec = tie.close (tie.spec returns returns-2)

@@ -11,21 +11,16 @@ use borrow.Author.Needs.{needs}
 use Rattle.roots.proofs.root_derivative.solve_system.Statement.{statement}
 use Rattle.roots.proofs.root_derivative.solve_system.Tie as tie
 
-mul-size : tie.Need-mul-size
-mul-size c = search needs
-
-pivot-room-requires : tie.Need-pivot-room-requires
-pivot-room-requires c κs = search needs
-
-array-borrow-prefix-rows : tie.Need-array-borrow-prefix-rows
-array-borrow-prefix-rows c = search needs
-
 slice-aggregate-divide : tie.Need-slice-aggregate-divide
-slice-aggregate-divide c = sym (length-take-le _ _ (omega (arith, c .before .before .before .before .pre .1, c .before .before .pivot-room .ensures)))
+slice-aggregate-divide c =
+    let pivot-room : tie.After-pivot-room = search in
+    let s : tie.Start = search in
+    sym (length-take-le _ _ (omega (arith, s .pre .1, pivot-room .pivot-room .ensures)))
 
 divide-requires : tie.Need-divide-requires
 divide-requires c κs =
-    let s = c .before .before .before .before in
+    let pivot-room : tie.After-pivot-room = search in
+    let s : tie.Start = search in
     let n = s .args .n in
     let few = fourth-le n (s .pre .1) in
     let one = mul-one (n * n) in (
@@ -33,26 +28,24 @@ divide-requires c κs =
       omega (arith, few, s .pre .2),
       omega (arith, one, s .pre .1, s .pre .2),
       inr (omega (arith, one, s .pre .1)),
-      length-take-le _ _ (omega (arith, s .pre .1, c .before .before .pivot-room .ensures)),
+      length-take-le _ _ (omega (arith, s .pre .1, pivot-room .pivot-room .ensures)),
     )
-
-same-length : tie.Need-same-length
-same-length c = search needs
 
 returns : tie.Need-returns
 returns c =
-    let s = c .before .before .before .before .before .before .before .before in
-    let d = c .before .before .before .divide in
+    let divide : tie.After-divide = search in
+    let s : tie.Start = search in
+    let d = divide .divide in
     system-solved binary64 (s .args .n) (s .args .w .now) (s .pre .1) (s .pre .2) (d .last .0) (d .result) (d .ensures .0) (d .ensures .1)
 
 pub solve-system-spec : {M : Type 1} → statement M
 solve-system-spec =
     tie.close
     (tie.spec
-    mul-size
-    pivot-room-requires
-    array-borrow-prefix-rows
+    (λ c. search needs)
+    (λ c κs. search needs)
+    (λ c. search needs)
     slice-aggregate-divide
     divide-requires
-    same-length
+    (λ c. search needs)
     returns)

@@ -9,47 +9,30 @@ use borrow.Author.Needs.{needs}
 use Rattle.roots.proofs.square_root.means.Statement.{statement}
 use Rattle.roots.proofs.square_root.means.Tie as tie
 
-mean-requires : tie.Need-mean-requires
-mean-requires c κs = search needs
-
-mean-requires-2 : tie.Need-mean-requires-2
-mean-requires-2 c κs = search needs
-
 mul-sum-of-squared-differences : tie.Need-mul-sum-of-squared-differences
-mul-sum-of-squared-differences c = omega (arith, square-le (c .before .before .before .before .before .before .before .before .before .before .args .n) (c .before .before .before .before .before .before .before .before .before .before .pre .order))
+mul-sum-of-squared-differences c = let s : tie.Start = search in omega (arith, square-le (s .args .n) (s .pre .order))
 
 sum-of-squared-differences-requires : tie.Need-sum-of-squared-differences-requires
-sum-of-squared-differences-requires c κs = omega (arith, square-le (c .before .before .before .before .before .before .before .before .before .before .args .n) (c .before .before .before .before .before .before .before .before .before .before .pre .order))
-
-copy-requires : tie.Need-copy-requires
-copy-requires c κs = search needs
-
-copy-requires-2 : tie.Need-copy-requires-2
-copy-requires-2 c κs = search needs
-
-root-verdict-requires : tie.Need-root-verdict-requires
-root-verdict-requires c κs = search needs
-
-same-length : tie.Need-same-length
-same-length c = search needs
+sum-of-squared-differences-requires c κs = let s : tie.Start = search in omega (arith, square-le (s .args .n) (s .pre .order))
 
 returns : tie.Need-returns
 returns c =
-    let s = c .before .before .before .before .before .before .before .before .before .before .before .before .before .before .before .before .before .before .before .before in
-    let d = c .before .before .before .before .before .before .before .before .before .sum-of-squared-differences in
-    means-steps binary64 (s .args .n) (s .args .w .now) (s .pre) (c .before .before .before .before .before .before .before .before .before .before .before .before .before .before .before .before .before .mean .last .0) (c .before .before .before .before .before .before .before .before .before .before .before .before .before .mean2 .last .0) (c .before .before .before .before .before .before .before .copy .last .0) (c .before .before .before .copy2 .last .0) (sqrtOf binary64 (d .result)) (c .root-verdict .result)
-    (c .before .before .before .before .before .before .before .before .before .before .before .before .before .before .before .before .before .mean .ensures) (c .before .before .before .before .before .before .before .before .before .before .before .before .before .mean2 .ensures) (root-of-squares binary64 (s .args .n) (c .before .before .before .before .before .before .before .before .before .before .before .before .before .mean2 .last .0) 0 2 (d .result) (d .ensures)) (c .before .before .before .before .before .before .before .copy .ensures) (c .before .before .before .copy2 .ensures) (c .root-verdict .ensures)
+    let (root-verdict, copy2, copy, sum, mean2, mean, s) :
+    tie.After-root-verdict × tie.After-copy2 × tie.After-copy × tie.After-sum-of-squared-differences × tie.After-mean2 × tie.After-mean × tie.Start = search in
+    let d = sum .sum-of-squared-differences in
+    means-steps binary64 (s .args .n) (s .args .w .now) (s .pre) (mean .mean .last .0) (mean2 .mean2 .last .0) (copy .copy .last .0) (copy2 .copy2 .last .0) (sqrtOf binary64 (d .result)) (root-verdict .root-verdict .result)
+    (mean .mean .ensures) (mean2 .mean2 .ensures) (root-of-squares binary64 (s .args .n) (mean2 .mean2 .last .0) 0 2 (d .result) (d .ensures)) (copy .copy .ensures) (copy2 .copy2 .ensures) (root-verdict .root-verdict .ensures)
 
 pub means-spec : {M : Type 1} → statement M
 means-spec =
     tie.close
     (tie.spec
-    mean-requires
-    mean-requires-2
+    (λ c κs. search needs)
+    (λ c κs. search needs)
     mul-sum-of-squared-differences
     sum-of-squared-differences-requires
-    copy-requires
-    copy-requires-2
-    root-verdict-requires
-    same-length
+    (λ c κs. search needs)
+    (λ c κs. search needs)
+    (λ c κs. search needs)
+    (λ c. search needs)
     returns)

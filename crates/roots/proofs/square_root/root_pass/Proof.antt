@@ -5,56 +5,34 @@ use borrow.Author.Needs.{needs}
 use Rattle.roots.proofs.square_root.root_pass.Statement.{statement}
 use Rattle.roots.proofs.square_root.root_pass.Tie as tie
 
-copy-requires : tie.Need-copy-requires
-copy-requires c κs = search needs
-
-identity-requires : tie.Need-identity-requires
-identity-requires c κs = search needs
-
-divide-slot-requires : tie.Need-divide-slot-requires
-divide-slot-requires c κs = search needs
-
-enum-told : tie.Need-enum-told
-enum-told c = search needs
-
-second-inverse-requires : tie.Need-second-inverse-requires
-second-inverse-requires c κs = search needs
-
-enum-told-2 : tie.Need-enum-told-2
-enum-told-2 c = search needs
-
-same-length : tie.Need-same-length
-same-length c = search needs
-
 returns : tie.Need-returns
 returns c =
-    let s = c .before .before .before .before .before .before .before .before .before .before .before .before .before .before .before .before .before .before .before in
-    let d = c .before .before .before .before .before .before .before .before .divide-slot in
-    let rest = c .before .before .second-inverse in
-    root-passed binary64 (s .args .n) (s .args .w .now) (s .pre) (c .before .before .before .before .before .before .before .before .before .before .before .before .before .before .before .before .copy .last .0) (c .before .before .before .before .before .before .before .before .before .before .before .before .identity .last .0) (d .last .0) (d .result) (c .before .before .before .before .before .before .before .before .before .before .before .before .before .before .before .before .copy .ensures) (c .before .before .before .before .before .before .before .before .before .before .before .before .identity .ensures) (d .ensures)
-    (rest .last .0) (rest .result) (c .before .before .before .before .enum-told .given .1) (rest .ensures)
-
-same-length-2 : tie.Need-same-length-2
-same-length-2 c = search needs
+    let (second-inverse, told, divide-slot, identity, copy, s) :
+    tie.After-second-inverse × tie.After-enum-told × tie.After-divide-slot × tie.After-identity × tie.After-copy × tie.Start = search in
+    let d = divide-slot .divide-slot in
+    let rest = second-inverse .second-inverse in
+    root-passed binary64 (s .args .n) (s .args .w .now) (s .pre) (copy .copy .last .0) (identity .identity .last .0) (d .last .0) (d .result) (copy .copy .ensures) (identity .identity .ensures) (d .ensures)
+    (rest .last .0) (rest .result) (told .enum-told .given .1) (rest .ensures)
 
 returns-2 : tie.Need-returns-2
 returns-2 c =
-    let s = c .before .before .before .before .before .before .before .before .before .before .before .before .before .before .before in
-    let d = c .before .before .before .before .divide-slot in
-    root-failed binary64 (s .args .n) (s .args .w .now) (s .pre) (c .before .before .before .before .before .before .before .before .before .before .before .before .copy .last .0) (c .before .before .before .before .before .before .before .before .identity .last .0) (d .last .0) (d .result) (c .before .before .before .before .before .before .before .before .before .before .before .before .copy .ensures) (c .before .before .before .before .before .before .before .before .identity .ensures) (d .ensures)
-    (c .enum-told2 .given .0 .0) (c .enum-told2 .given .1)
+    let (told2, divide-slot, identity, copy, s) :
+    tie.After-enum-told2 × tie.After-divide-slot × tie.After-identity × tie.After-copy × tie.Start = search in
+    let d = divide-slot .divide-slot in
+    root-failed binary64 (s .args .n) (s .args .w .now) (s .pre) (copy .copy .last .0) (identity .identity .last .0) (d .last .0) (d .result) (copy .copy .ensures) (identity .identity .ensures) (d .ensures)
+    (told2 .enum-told2 .given .0 .0) (told2 .enum-told2 .given .1)
 
 pub root-pass-spec : {M : Type 1} → statement M
 root-pass-spec =
     tie.close
     (tie.spec
-    copy-requires
-    identity-requires
-    divide-slot-requires
-    enum-told
-    second-inverse-requires
-    enum-told-2
-    same-length
+    (λ c κs. search needs)
+    (λ c κs. search needs)
+    (λ c κs. search needs)
+    (λ c. search needs)
+    (λ c κs. search needs)
+    (λ c. search needs)
+    (λ c. search needs)
     returns
-    same-length-2
+    (λ c. search needs)
     returns-2)

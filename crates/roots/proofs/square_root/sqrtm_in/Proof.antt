@@ -6,63 +6,38 @@ use borrow.Author.Needs.{needs}
 use Rattle.roots.proofs.square_root.sqrtm_in.Statement.{statement}
 use Rattle.roots.proofs.square_root.sqrtm_in.Tie as tie
 
-slice-read-sqrt : tie.Need-slice-read-sqrt
-slice-read-sqrt c = search needs
-
-sqrt-requires : tie.Need-sqrt-requires
-sqrt-requires c κs = search needs
-
-slice-write-w : tie.Need-slice-write-w
-slice-write-w c = search needs
-
-same-length : tie.Need-same-length
-same-length c = search needs
-
 returns : tie.Need-returns
 returns c =
-    let s = c .before .before .before .before in
-    root-number binary64 (s .args .n) (s .args .w .now) (s .pre) (c .sqrt .result) _ (c .before .before .if1 .taken) (c .sqrt .ensures) refl
-
-identity-requires : tie.Need-identity-requires
-identity-requires c κs = search needs
-
-root-passes-requires : tie.Need-root-passes-requires
-root-passes-requires c κs = search needs
-
-answers-requires : tie.Need-answers-requires
-answers-requires c κs = search needs
-
-same-length-2 : tie.Need-same-length-2
-same-length-2 c = search needs
+    let (sqrt, taken1, s) : tie.After-sqrt × tie.Then1 × tie.Start = search in
+    root-number binary64 (s .args .n) (s .args .w .now) (s .pre) (sqrt .sqrt .result) _ (taken1 .if1 .taken) (sqrt .sqrt .ensures) refl
 
 returns-2 : tie.Need-returns-2
 returns-2 c =
-    let s = c .before .before .before .before .before .before .before .before .before .before .before .before in
-    let p = c .before .before .before .before .root-passes in
-    root-answers binary64 (s .args .n) (s .args .w .now) (s .pre) (c .before .before .before .before .before .before .before .before .identity .last .0) (p .last .0) (p .result) (c .before .before .before .before .before .before .before .before .before .before .if1 .left) (c .before .before .before .before .before .before .before .before .identity .ensures) (p .ensures) (sym (c .before .answers .ensures) ∙ c .if2 .taken)
-
-same-length-3 : tie.Need-same-length-3
-same-length-3 c = search needs
+    let (taken2, answers, root-passes, identity, left1, s) :
+    tie.Then2 × tie.After-answers × tie.After-root-passes × tie.After-identity × tie.Else1 × tie.Start = search in
+    let p = root-passes .root-passes in
+    root-answers binary64 (s .args .n) (s .args .w .now) (s .pre) (identity .identity .last .0) (p .last .0) (p .result) (left1 .if1 .left) (identity .identity .ensures) (p .ensures) (sym (answers .answers .ensures) ∙ taken2 .if2 .taken)
 
 returns-3 : tie.Need-returns-3
 returns-3 c =
-    let s = c .before .before .before .before .before .before .before .before .before .before .before .before in
-    let p = c .before .before .before .before .root-passes in
-    root-refused binary64 (s .args .n) (s .args .w .now) (s .pre) (c .before .before .before .before .before .before .before .before .identity .last .0) (p .last .0) (p .result) (c .before .before .before .before .before .before .before .before .before .before .if1 .left) (c .before .before .before .before .before .before .before .before .identity .ensures) (p .ensures) (sym (c .before .answers .ensures) ∙ c .if2 .left)
+    let (left2, answers, root-passes, identity, left1, s) :
+    tie.Else2 × tie.After-answers × tie.After-root-passes × tie.After-identity × tie.Else1 × tie.Start = search in
+    let p = root-passes .root-passes in
+    root-refused binary64 (s .args .n) (s .args .w .now) (s .pre) (identity .identity .last .0) (p .last .0) (p .result) (left1 .if1 .left) (identity .identity .ensures) (p .ensures) (sym (answers .answers .ensures) ∙ left2 .if2 .left)
 
 pub sqrtm-in-spec : {M : Type 1} → statement M
 sqrtm-in-spec =
     tie.close
     (tie.spec
-    slice-read-sqrt
-    sqrt-requires
-    slice-write-w
-    same-length
+    (λ c. search needs)
+    (λ c κs. search needs)
+    (λ c. search needs)
+    (λ c. search needs)
     returns
-    identity-requires
-    root-passes-requires
-    answers-requires
-    same-length-2
+    (λ c κs. search needs)
+    (λ c κs. search needs)
+    (λ c κs. search needs)
+    (λ c. search needs)
     returns-2
-    same-length-3
+    (λ c. search needs)
     returns-3)

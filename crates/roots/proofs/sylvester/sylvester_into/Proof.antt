@@ -17,48 +17,42 @@ Inv-loop n s out₀ size y₀ p₀ out y p = (p ≤ n) × Filled out₀ 0 (p * n
 abbrev μ-loop : tie.MeasureT-loop
 μ-loop n s out₀ size y₀ p₀ out y p = n - p
 
-mul-size : tie.Need-mul-size Inv-loop μ-loop
-mul-size c = search needs
-
 mul-size-2 : tie.Need-mul-size-2 Inv-loop μ-loop
-mul-size-2 c = omega (arith, mul-le-mul (c .before .before .pre .0) (c .before .before .pre .1))
+mul-size-2 c = let s : tie.Start Inv-loop μ-loop = search in omega (arith, mul-le-mul (s .pre .0) (s .pre .1))
 
 loop-holds : tie.Need-loop-holds Inv-loop μ-loop
 loop-holds c = (omega arith, rw zero-mul (filled-none _ _ _ _))
 
 sylvester-rows-requires : tie.Need-sylvester-rows-requires Inv-loop μ-loop
 sylvester-rows-requires c κs =
-    let l = c .before .before .loop in
-    let a = c .before .before .before .before .before .args in
+    let head : tie.At-loop Inv-loop μ-loop = search in
+    let s : tie.Start Inv-loop μ-loop = search in
+    let l = head .loop in
+    let a = s .args in
     let less : l .p < a .n = omega arith in
     omega (arith, rows-end (l .p) (a .n) (a .n) (a .n * a .n) less)
 
 add-y : tie.Need-add-y Inv-loop μ-loop
 add-y c =
-    let l = c .before .before .before .before .before .loop in
-    let a = c .before .before .before .before .before .before .before .before .args in
+    let head : tie.At-loop Inv-loop μ-loop = search in
+    let s : tie.Start Inv-loop μ-loop = search in
+    let l = head .loop in
+    let a = s .args in
     let less : l .p < a .n = omega arith in
     omega (arith, rows-end (l .p) (a .n) (a .n) (a .n * a .n) less)
 
-add-p : tie.Need-add-p Inv-loop μ-loop
-add-p c = search needs
-
-loop-less : tie.Need-loop-less Inv-loop μ-loop
-loop-less c = search needs
-
 loop-again : tie.Need-loop-again Inv-loop μ-loop
 loop-again c =
-    let a = c .before .before .before .before .before .before .before .before .args in
-    (omega arith, filled-blocks (sylvesterEntry binary64 (a .n) (a .s .now)) (a .n) (a .n) (a .n) _ _ _ _ _ (c .before .before .before .before .before .loop .inv .1) (c .before .before .sylvester-rows .ensures))
-
-same-length : tie.Need-same-length Inv-loop μ-loop
-same-length c = search needs
+    let (sylvester-rows, head, s) : tie.After-sylvester-rows Inv-loop μ-loop × tie.At-loop Inv-loop μ-loop × tie.Start Inv-loop μ-loop = search in
+    let a = s .args in
+    (omega arith, filled-blocks (sylvesterEntry binary64 (a .n) (a .s .now)) (a .n) (a .n) (a .n) _ _ _ _ _ (head .loop .inv .1) (sylvester-rows .sylvester-rows .ensures))
 
 returns : tie.Need-returns Inv-loop μ-loop
 unfolding sylvesterMatrix blockRow
 returns c =
-    let l = c .before .loop in
-    let s = c .before .before .before .before in
+    let head : tie.At-loop Inv-loop μ-loop = search in
+    let s : tie.Start Inv-loop μ-loop = search in
+    let l = head .loop in
     let a = s .args in
     let e : l .p ≡ a .n = omega arith in
     filled-all (sylvesterEntry binary64 (a .n) (a .s .now)) (a .n) (a .n) (a .n) (a .out .now) (a .n) _ _ (s .pre .3) (rw e at (l .inv .1))
@@ -69,13 +63,13 @@ sylvester-into-spec =
     (tie.spec
     Inv-loop
     μ-loop
-    mul-size
+    (λ c. search needs)
     mul-size-2
     loop-holds
     sylvester-rows-requires
     add-y
-    add-p
-    loop-less
+    (λ c. search needs)
+    (λ c. search needs)
     loop-again
-    same-length
+    (λ c. search needs)
     returns)

@@ -20,61 +20,28 @@ Inv-loop out₀ y p q v n s r x c₀ out c = (c ≤ n) × (length out ≡ length
 abbrev μ-loop : tie.MeasureT-loop
 μ-loop out₀ y p q v n s r x c₀ out c = n - c
 
-mul-x : tie.Need-mul-x Inv-loop μ-loop
-mul-x c = search needs
-
 loop-holds : tie.Need-loop-holds Inv-loop μ-loop
 loop-holds c = (omega arith, refl, put-none _ _ _)
-
-add-add-where : tie.Need-add-add-where Inv-loop μ-loop
-add-add-where c = search needs
-
-mul-add-where : tie.Need-mul-add-where Inv-loop μ-loop
-mul-add-where c = search needs
-
-shared-slice-read-add-where : tie.Need-shared-slice-read-add-where Inv-loop μ-loop
-shared-slice-read-add-where c = search needs
-
-add-where-requires : tie.Need-add-where-requires Inv-loop μ-loop
-add-where-requires c κs = search needs
-
-add-where-requires-2 : tie.Need-add-where-requires-2 Inv-loop μ-loop
-add-where-requires-2 c κs = search needs
-
-add-out : tie.Need-add-out Inv-loop μ-loop
-add-out c = search needs
-
-mul-out : tie.Need-mul-out Inv-loop μ-loop
-mul-out c = search needs
-
-slice-write-out : tie.Need-slice-write-out Inv-loop μ-loop
-slice-write-out c = search needs
-
-add-c : tie.Need-add-c Inv-loop μ-loop
-add-c c = search needs
-
-loop-less : tie.Need-loop-less Inv-loop μ-loop
-loop-less c = search needs
 
 loop-again : tie.Need-loop-again Inv-loop μ-loop
 unfolding at
 loop-again c =
-    let l = c .before .before .before .before .loop in
-    let a = c .before .before .before .before .before .before .before .args in
+    let (add-where, head, s) : tie.After-add-where Inv-loop μ-loop × tie.At-loop Inv-loop μ-loop × tie.Start Inv-loop μ-loop = search in
+    let l = head .loop in
+    let a = s .args in
     let v = item (a .s .now) (a .r * a .n + l .c) in
-    let e = c .add-where2 .ensures ∙ ap (λ (x : Float). addedWhere binary64 x (a .r) (l .c) (a .v)) (c .before .add-where .ensures ∙ ap (λ (x : Float). addedWhere binary64 x (a .p) (a .q) v) (+zero-bits binary64)) in (
+    let e = c .add-where2 .ensures ∙ ap (λ (x : Float). addedWhere binary64 x (a .r) (l .c) (a .v)) (add-where .add-where .ensures ∙ ap (λ (x : Float). addedWhere binary64 x (a .p) (a .q) v) (+zero-bits binary64)) in (
       omega arith,
       simp length-set (l .inv .1),
       ap (λ (o : List Float). set o (a .y + l .c) (c .add-where2 .result)) (l .inv .2) ∙ put-store (a .out .now) (a .y) (l .c) (λ c. addedWhere binary64 (addedWhere binary64 +zero (a .p) (a .q) (at (a .n) (a .s .now) (a .r) c)) (a .r) c (a .v)) (c .add-where2 .result) e,
     )
 
-same-length : tie.Need-same-length Inv-loop μ-loop
-same-length c = search needs
-
 returns : tie.Need-returns Inv-loop μ-loop
 returns c =
-    let e : c .before .loop .c ≡ c .before .before .before .before .args .n = omega arith in
-    rw e at (c .before .loop .inv .2)
+    let head : tie.At-loop Inv-loop μ-loop = search in
+    let s : tie.Start Inv-loop μ-loop = search in
+    let e : head .loop .c ≡ s .args .n = omega arith in
+    rw e at (head .loop .inv .2)
 
 pub sylvester-part-spec : {M : Type 1} → statement M
 sylvester-part-spec =
@@ -82,18 +49,18 @@ sylvester-part-spec =
     (tie.spec
     Inv-loop
     μ-loop
-    mul-x
+    (λ c. search needs)
     loop-holds
-    add-add-where
-    mul-add-where
-    shared-slice-read-add-where
-    add-where-requires
-    add-where-requires-2
-    add-out
-    mul-out
-    slice-write-out
-    add-c
-    loop-less
+    (λ c. search needs)
+    (λ c. search needs)
+    (λ c. search needs)
+    (λ c κs. search needs)
+    (λ c κs. search needs)
+    (λ c. search needs)
+    (λ c. search needs)
+    (λ c. search needs)
+    (λ c. search needs)
+    (λ c. search needs)
     loop-again
-    same-length
+    (λ c. search needs)
     returns)

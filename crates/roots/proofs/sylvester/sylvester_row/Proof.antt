@@ -22,45 +22,41 @@ abbrev μ-loop : tie.MeasureT-loop
 loop-holds : tie.Need-loop-holds Inv-loop μ-loop
 loop-holds c = (omega arith, filled-none _ _ _ _)
 
-entry-requires : tie.Need-entry-requires Inv-loop μ-loop
-entry-requires c κs = search needs
-
 sylvester-part-requires : tie.Need-sylvester-part-requires Inv-loop μ-loop
 sylvester-part-requires c κs =
-    let l = c .before .before .before .loop in
-    let a = c .before .before .before .before .before .before .args in
+    let head : tie.At-loop Inv-loop μ-loop = search in
+    let s : tie.Start Inv-loop μ-loop = search in
+    let l = head .loop in
+    let a = s .args in
     let less : l .q < a .n = omega arith in
     omega (arith, row-end (l .q) (a .n) (a .n) less)
 
 add-z : tie.Need-add-z Inv-loop μ-loop
 add-z c =
-    let l = c .before .before .before .before .before .before .loop in
-    let a = c .before .before .before .before .before .before .before .before .before .args in
+    let head : tie.At-loop Inv-loop μ-loop = search in
+    let s : tie.Start Inv-loop μ-loop = search in
+    let l = head .loop in
+    let a = s .args in
     let less : l .q < a .n = omega arith in
     omega (arith, row-end (l .q) (a .n) (a .n) less)
-
-add-q : tie.Need-add-q Inv-loop μ-loop
-add-q c = search needs
-
-loop-less : tie.Need-loop-less Inv-loop μ-loop
-loop-less c = search needs
 
 loop-again : tie.Need-loop-again Inv-loop μ-loop
 unfolding sylvesterEntry
 loop-again c =
-    let l = c .before .before .before .before .before .before .loop in
-    let a = c .before .before .before .before .before .before .before .before .before .args in
-    let e = c .before .before .sylvester-part .ensures
-    ∙ ap (λ (v : Float). put (l .out) (l .z) (tab (a .n) (λ x. addedWhere binary64 (addedWhere binary64 +zero (a .p) (l .q) (at (a .n) (a .s .now) (a .r) x)) (a .r) x v))) (c .before .before .before .entry .ensures) in
+    let (sylvester-part, entry, head, s) :
+    tie.After-sylvester-part Inv-loop μ-loop × tie.After-entry Inv-loop μ-loop × tie.At-loop Inv-loop μ-loop × tie.Start Inv-loop μ-loop = search in
+    let l = head .loop in
+    let a = s .args in
+    let e = sylvester-part .sylvester-part .ensures
+    ∙ ap (λ (v : Float). put (l .out) (l .z) (tab (a .n) (λ x. addedWhere binary64 (addedWhere binary64 +zero (a .p) (l .q) (at (a .n) (a .s .now) (a .r) x)) (a .r) x v))) (entry .entry .ensures) in
     (omega arith, filled-more _ _ _ _ (λ q. sylvesterEntry binary64 (a .n) (a .s .now) (a .p) q (a .r)) _ _ _ (l .inv .1) e)
-
-same-length : tie.Need-same-length Inv-loop μ-loop
-same-length c = search needs
 
 returns : tie.Need-returns Inv-loop μ-loop
 returns c =
-    let l = c .before .loop in
-    let a = c .before .before .before .before .args in
+    let head : tie.At-loop Inv-loop μ-loop = search in
+    let s : tie.Start Inv-loop μ-loop = search in
+    let l = head .loop in
+    let a = s .args in
     let e : l .q ≡ a .n = omega arith in
     rw e at (l .inv .1 .list) ∙ ap (put (a .out .now) (a .y)) (row-parts (sylvesterEntry binary64 (a .n) (a .s .now)) (a .n) (a .n) (a .p) (a .r))
 
@@ -71,11 +67,11 @@ sylvester-row-spec =
     Inv-loop
     μ-loop
     loop-holds
-    entry-requires
+    (λ c κs. search needs)
     sylvester-part-requires
     add-z
-    add-q
-    loop-less
+    (λ c. search needs)
+    (λ c. search needs)
     loop-again
-    same-length
+    (λ c. search needs)
     returns)

@@ -17,42 +17,39 @@ Inv-loop out₀ y n s p width z₀ r₀ out z r = (r ≤ n) × Filled out₀ y r
 abbrev μ-loop : tie.MeasureT-loop
 μ-loop out₀ y n s p width z₀ r₀ out z r = n - r
 
-mul-width : tie.Need-mul-width Inv-loop μ-loop
-mul-width c = search needs
-
 loop-holds : tie.Need-loop-holds Inv-loop μ-loop
 loop-holds c = (omega arith, filled-none _ _ _ _)
 
 sylvester-row-requires : tie.Need-sylvester-row-requires Inv-loop μ-loop
 sylvester-row-requires c κs =
-    let l = c .before .before .loop in
-    let a = c .before .before .before .before .before .args in
+    let head : tie.At-loop Inv-loop μ-loop = search in
+    let s : tie.Start Inv-loop μ-loop = search in
+    let l = head .loop in
+    let a = s .args in
     let less : l .r < a .n = omega arith in
     omega (arith, row-end (l .r) (a .n) (a .n * a .n) less, row-end (l .r) (a .n) (a .n) less)
 
 add-z : tie.Need-add-z Inv-loop μ-loop
 add-z c =
-    let l = c .before .before .before .before .before .loop in
-    let a = c .before .before .before .before .before .before .before .before .args in
+    let head : tie.At-loop Inv-loop μ-loop = search in
+    let s : tie.Start Inv-loop μ-loop = search in
+    let l = head .loop in
+    let a = s .args in
     let less : l .r < a .n = omega arith in
     omega (arith, row-end (l .r) (a .n) (a .n * a .n) less)
 
-add-r : tie.Need-add-r Inv-loop μ-loop
-add-r c = search needs
-
-loop-less : tie.Need-loop-less Inv-loop μ-loop
-loop-less c = search needs
-
 loop-again : tie.Need-loop-again Inv-loop μ-loop
-loop-again c = (omega arith, filled-more _ _ _ _ _ _ _ _ (c .before .before .before .before .before .loop .inv .1) (c .before .before .sylvester-row .ensures))
-
-same-length : tie.Need-same-length Inv-loop μ-loop
-same-length c = search needs
+loop-again c =
+    let sylvester-row : tie.After-sylvester-row Inv-loop μ-loop = search in
+    let head : tie.At-loop Inv-loop μ-loop = search in
+    (omega arith, filled-more _ _ _ _ _ _ _ _ (head .loop .inv .1) (sylvester-row .sylvester-row .ensures))
 
 returns : tie.Need-returns Inv-loop μ-loop
 returns c =
-    let l = c .before .loop in
-    let e : l .r ≡ c .before .before .before .before .args .n = omega arith in
+    let head : tie.At-loop Inv-loop μ-loop = search in
+    let s : tie.Start Inv-loop μ-loop = search in
+    let l = head .loop in
+    let e : l .r ≡ s .args .n = omega arith in
     rw e at (l .inv .1 .list)
 
 pub sylvester-rows-spec : {M : Type 1} → statement M
@@ -61,12 +58,12 @@ sylvester-rows-spec =
     (tie.spec
     Inv-loop
     μ-loop
-    mul-width
+    (λ c. search needs)
     loop-holds
     sylvester-row-requires
     add-z
-    add-r
-    loop-less
+    (λ c. search needs)
+    (λ c. search needs)
     loop-again
-    same-length
+    (λ c. search needs)
     returns)

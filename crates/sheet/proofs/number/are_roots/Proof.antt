@@ -20,31 +20,31 @@ loop-holds : tie.Need-loop-holds Inv-loop μ-loop
 loop-holds c = (omega arith, λ j h. absurd (omega arith))
 
 mul-is-root : tie.Need-mul-is-root Inv-loop μ-loop
-mul-is-root c = omega (arith, c .before .before .before .pre .0)
+mul-is-root c = let s : tie.Start Inv-loop μ-loop = search in omega (arith, s .pre .0)
 
 add-is-root : tie.Need-add-is-root Inv-loop μ-loop
-add-is-root c = omega (arith, c .before .before .before .pre .1 (c .before .loop .k) (c .loop-test .taken))
+add-is-root c =
+    let (turn, head, s) : tie.In-loop Inv-loop μ-loop × tie.At-loop Inv-loop μ-loop × tie.Start Inv-loop μ-loop = search in
+    omega (arith, s .pre .1 (head .loop .k) (turn .loop-test .taken))
 
 shared-slice-read-is-root : tie.Need-shared-slice-read-is-root Inv-loop μ-loop
-shared-slice-read-is-root c = c .before .before .before .before .pre .1 (c .before .before .loop .k) (c .before .loop-test .taken)
-
-is-root-requires : tie.Need-is-root-requires Inv-loop μ-loop
-is-root-requires c κs = search needs
+shared-slice-read-is-root c =
+    let (turn, head, s) : tie.In-loop Inv-loop μ-loop × tie.At-loop Inv-loop μ-loop × tie.Start Inv-loop μ-loop = search in
+    s .pre .1 (head .loop .k) (turn .loop-test .taken)
 
 returns : tie.Need-returns Inv-loop μ-loop
 returns c = λ h. let z : _≡_ {A = ℕ} 0 1 = cc in absurd (omega arith)
 
 add-k : tie.Need-add-k Inv-loop μ-loop
-add-k c = omega (arith, c .before .before .before .before .before .before .pre .0)
-
-loop-less : tie.Need-loop-less Inv-loop μ-loop
-loop-less c = omega arith
+add-k c = let s : tie.Start Inv-loop μ-loop = search in omega (arith, s .pre .0)
 
 loop-again : tie.Need-loop-again Inv-loop μ-loop
-loop-again c = (omega arith, below-more _ _ (c .before .before .before .before .loop .inv .1) (c .before .is-root .ensures (not-false _ (c .if1 .left))))
+loop-again c =
+    let (left1, is-root, head) : tie.Else1 Inv-loop μ-loop × tie.After-is-root Inv-loop μ-loop × tie.At-loop Inv-loop μ-loop = search in
+    (omega arith, below-more _ _ (head .loop .inv .1) (is-root .is-root .ensures (not-false _ (left1 .if1 .left))))
 
 returns-2 : tie.Need-returns-2 Inv-loop μ-loop
-returns-2 c = λ h j l. c .before .loop .inv .1 j (omega arith)
+returns-2 c = let head : tie.At-loop Inv-loop μ-loop = search in λ h j l. head .loop .inv .1 j (omega arith)
 
 pub are-roots-spec : {M : Type 1} → statement M
 are-roots-spec =
@@ -56,9 +56,9 @@ are-roots-spec =
     mul-is-root
     add-is-root
     shared-slice-read-is-root
-    is-root-requires
+    (λ c κs. search needs)
     returns
     add-k
-    loop-less
+    (λ c. omega arith)
     loop-again
     returns-2)

@@ -5,7 +5,7 @@ use Rattle.sheet.proofs.number.is_root.Statement.{statement}
 use Rattle.sheet.proofs.number.is_root.Tie as tie
 
 returns : tie.Need-returns
-returns c = λ h. inl (c .if1 .taken)
+returns c = let taken1 : tie.Then1 = search in λ h. inl (taken1 .if1 .taken)
 
 returns-2 : tie.Need-returns-2
 returns-2 c = λ h. inr (eqb-true _ 8 h)

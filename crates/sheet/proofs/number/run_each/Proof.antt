@@ -22,47 +22,54 @@ loop-holds : tie.Need-loop-holds Inv-loop μ-loop
 loop-holds c = (omega arith, omega arith, refl, λ d. rw lines-none (wrote-none _ 0 (omega arith)))
 
 mul-run-root : tie.Need-mul-run-root Inv-loop μ-loop
-mul-run-root c = omega (arith, c .before .before .before .before .before .pre .0 .0)
+mul-run-root c = let s : tie.Start Inv-loop μ-loop = search in omega (arith, s .pre .0 .0)
 
 add-run-root : tie.Need-add-run-root Inv-loop μ-loop
-add-run-root c = omega (arith, c .before .before .before .before .before .pre .0 .2 (c .before .loop .k) (c .loop-test .taken) .there)
+add-run-root c =
+    let (turn, head, s) : tie.In-loop Inv-loop μ-loop × tie.At-loop Inv-loop μ-loop × tie.Start Inv-loop μ-loop = search in
+    omega (arith, s .pre .0 .2 (head .loop .k) (turn .loop-test .taken) .there)
 
 add-run-root-2 : tie.Need-add-run-root-2 Inv-loop μ-loop
-add-run-root-2 c = omega (arith, c .before .before .before .before .before .before .pre .0 .0)
+add-run-root-2 c = let s : tie.Start Inv-loop μ-loop = search in omega (arith, s .pre .0 .0)
 
 run-root-requires : tie.Need-run-root-requires Inv-loop μ-loop
 run-root-requires c κs =
-    let b = c .before .before .before .before .before .before in
-    let l = c .before .before .loop in
-    let taken = c .before .loop-test .taken in
+    let (turn, head, b) : tie.In-loop Inv-loop μ-loop × tie.At-loop Inv-loop μ-loop × tie.Start Inv-loop μ-loop = search in
+    let l = head .loop in
+    let taken = turn .loop-test .taken in
     let room = b .pre .0 in
     ((omega (arith, room .0, room .1, l .inv .1, l .inv .2), omega (arith, room .0)), (room .2 (l .k) taken, b .pre .1))
 
 add-k : tie.Need-add-k Inv-loop μ-loop
-add-k c = omega (arith, c .before .before .before .before .before .before .before .before .before .pre .0 .0, c .before .before .before .before .loop-test .taken)
+add-k c =
+    let turn : tie.In-loop Inv-loop μ-loop = search in
+    let s : tie.Start Inv-loop μ-loop = search in
+    omega (arith, s .pre .0 .0, turn .loop-test .taken)
 
 loop-less : tie.Need-loop-less Inv-loop μ-loop
-loop-less c = omega (arith, c .before .before .before .before .loop-test .taken)
+loop-less c = let turn : tie.In-loop Inv-loop μ-loop = search in omega (arith, turn .loop-test .taken)
 
 loop-again : tie.Need-loop-again Inv-loop μ-loop
 loop-again c =
-    let a = c .before .before .before .before .before .before .before .before .before .args in
-    let l = c .before .before .before .before .before .loop in
-    let r = c .before .before .run-root in (
-      omega (arith, c .before .before .before .before .loop-test .taken),
+    let (run-root, turn, head, s) :
+    tie.After-run-root Inv-loop μ-loop × tie.In-loop Inv-loop μ-loop × tie.At-loop Inv-loop μ-loop × tie.Start Inv-loop μ-loop = search in
+    let a = s .args in
+    let l = head .loop in
+    let r = run-root .run-root in (
+      omega (arith, turn .loop-test .taken),
       omega (arith, l .inv .1, r .ensures 0 .short),
       r .kept .1 .1 .0 ∙ l .inv .2,
       λ d. rw (lines-more binary64 (now (a .s)) 1 d (a .q) (l .k)) (wrote-more (l .inv .3 d) (r .ensures d .wrote)),
     )
 
 same-length : tie.Need-same-length Inv-loop μ-loop
-same-length c = c .before .loop .inv .2
+same-length c = let head : tie.At-loop Inv-loop μ-loop = search in head .loop .inv .2
 
 returns : tie.Need-returns Inv-loop μ-loop
 returns c =
-    let b = c .before .before .before .before .before in
-    let l = c .before .loop in
-    let all : l .k ≡ b .args .t = omega (arith, l .inv .0, c .loop-test .left) in
+    let (end, head, b) : tie.After-loop Inv-loop μ-loop × tie.At-loop Inv-loop μ-loop × tie.Start Inv-loop μ-loop = search in
+    let l = head .loop in
+    let all : l .k ≡ b .args .t = omega (arith, l .inv .0, end .loop-test .left) in
     λ d. record { wrote = rw all at (l .inv .3 d); short = omega (arith, l .inv .1, b .pre .0 .0) }
 
 pub run-each-spec : {M : Type 1} → statement M

@@ -9,45 +9,52 @@ use Rattle.sheet.proofs.position.direction_at.Tie as tie
 
 mul-size : tie.Need-mul-size
 mul-size c =
-    let a = c .args in
+    let s : tie.Start = search in
+    let a = s .args in
     let q = square-le8 (a .n) (omega arith) in
     omega (arith, q)
 
 mul-size-2 : tie.Need-mul-size-2
 mul-size-2 c =
-    let a = c .args in
+    let s : tie.Start = search in
+    let a = s .args in
     let q = square-le8 (a .n) (omega arith) in
     omega (arith, q)
 
 add-result : tie.Need-add-result
 add-result c =
-    let a = c .args in
+    let s : tie.Start = search in
+    let a = s .args in
     let q = square-le8 (a .n) (omega arith) in
     omega (arith, q)
 
 add-result-2 : tie.Need-add-result-2
 add-result-2 c =
-    let a = c .args in
+    let s : tie.Start = search in
+    let a = s .args in
     let q = square-le8 (a .n) (omega arith) in
     omega (arith, q)
 
 mul-result : tie.Need-mul-result
 mul-result c =
-    let a = c .args in
+    let s : tie.Start = search in
+    let a = s .args in
     let q = square-le8 (a .n) (omega arith) in
     let m = mul-le-mul {n₁ = a .i} {m₁ = 8 * (a .n * a .n)} {n₂ = 8} {m₂ = 512} (omega arith) (omega (arith, q)) in
     omega (arith, q, m)
 
 add-result-3 : tie.Need-add-result-3
 add-result-3 c =
-    let a = c .args in
+    let s : tie.Start = search in
+    let a = s .args in
     let q = square-le8 (a .n) (omega arith) in
     let m = mul-le-mul {n₁ = a .i} {m₁ = 8 * (a .n * a .n)} {n₂ = 8} {m₂ = 512} (omega arith) (omega (arith, q)) in
     omega (arith, q, m)
 
 returns : tie.Need-returns
 returns c =
-    let a = c .args in
+    let s : tie.Start = search in
+    let a = s .args in
     let q = square-le8 (a .n) (omega arith) in
     let m = mul-le-mul {n₁ = a .i} {m₁ = 8 * (a .n * a .n)} {n₂ = 8} {m₂ = 512} (omega arith) (omega (arith, q)) in
     (refl, omega (arith, q, m))

@@ -10,62 +10,42 @@ use borrow.Author.Needs.{needs}
 use Rattle.sheet.proofs.run.run_accepted.Statement.{statement}
 use Rattle.sheet.proofs.run.run_accepted.Tie as tie
 
-exponent-at-requires : tie.Need-exponent-at-requires
-exponent-at-requires c κs = search needs
-
-add-q : tie.Need-add-q
-add-q c = search needs
-
 are-roots-requires : tie.Need-are-roots-requires
-are-roots-requires c κs = let sheet = c .before .before .before .before .pre .0 in (sheet .count, λ k l. omega (arith, sheet .each k l .there, c .exponent-at .ensures .0))
+are-roots-requires c κs =
+    let exponent-at : tie.After-exponent-at = search in
+    let s : tie.Start = search in
+    let sheet = s .pre .0 in (sheet .count, λ k l. omega (arith, sheet .each k l .there, exponent-at .exponent-at .ensures .0))
 
 run-roots-requires : tie.Need-run-roots-requires
 run-roots-requires c κs =
-    let b = c .before .before .before .before .before .before .before in
+    let (taken2, are-roots, exponent-at, taken1, b) : tie.Then2 × tie.After-are-roots × tie.After-exponent-at × tie.Then1 × tie.Start = search in
     let a = b .args in
     let sheet = b .pre .0 in
-    let one = c .before .before .before .before .if1 .taken in
-    let at = c .before .before .before .exponent-at in
+    let one = taken1 .if1 .taken in
+    let at = exponent-at .exponent-at in
     let first = ap (λ (x : ℕ). x + 1) (at .ensures .0) in
-    let roots = c .before .before .are-roots .ensures (c .before .if2 .taken) in
+    let roots = are-roots .are-roots .ensures (taken2 .if2 .taken) in
     ((sheet .count, b .pre .1, λ k l. root-task (now (a .s)) (a .n) (a .d) (a .e) (a .t) (at .result + 1) one sheet first k l (roots k l)), number-there (now (a .s)) (a .n) (a .d) (a .e) (a .t) one sheet)
-
-same-length : tie.Need-same-length
-same-length c = search needs
 
 returns : tie.Need-returns
 returns c =
-    let a = c .before .before .before .before .before .before .before .before .before .before .args in
-    let at = c .before .before .before .before .before .before .exponent-at in
-    lines-of-number binary64 (now (a .s)) (a .n) (a .d) (a .t) (tasksAt (a .n) (a .d) (a .e) + 1) (at .result + 1) (c .before .before .before .before .before .before .before .if1 .taken) (ap (λ (x : ℕ). x + 1) (at .ensures .0)) (c .before .before .run-roots .ensures (a .d))
-
-workspace-room-requires : tie.Need-workspace-room-requires
-workspace-room-requires c κs = search needs
-
-slice-aggregate-run-with-room : tie.Need-slice-aggregate-run-with-room
-slice-aggregate-run-with-room c = search needs
-
-run-with-room-requires : tie.Need-run-with-room-requires
-run-with-room-requires c κs = search needs
-
-same-length-2 : tie.Need-same-length-2
-same-length-2 c = search needs
-
-returns-2 : tie.Need-returns-2
-returns-2 c = search needs
+    let (run-roots, exponent-at, taken1, s) : tie.After-run-roots × tie.After-exponent-at × tie.Then1 × tie.Start = search in
+    let a = s .args in
+    let at = exponent-at .exponent-at in
+    lines-of-number binary64 (now (a .s)) (a .n) (a .d) (a .t) (tasksAt (a .n) (a .d) (a .e) + 1) (at .result + 1) (taken1 .if1 .taken) (ap (λ (x : ℕ). x + 1) (at .ensures .0)) (run-roots .run-roots .ensures (a .d))
 
 pub run-accepted-spec : {M : Type 1} → statement M
 run-accepted-spec =
     tie.close
     (tie.spec
-    exponent-at-requires
-    add-q
+    (λ c κs. search needs)
+    (λ c. search needs)
     are-roots-requires
     run-roots-requires
-    same-length
+    (λ c. search needs)
     returns
-    workspace-room-requires
-    slice-aggregate-run-with-room
-    run-with-room-requires
-    same-length-2
-    returns-2)
+    (λ c κs. search needs)
+    (λ c. search needs)
+    (λ c κs. search needs)
+    (λ c. search needs)
+    (λ c. search needs))

@@ -9,23 +9,14 @@ use borrow.Author.Needs.{needs}
 use Rattle.sheet.proofs.run.run_in.Statement.{statement}
 use Rattle.sheet.proofs.run.run_in.Tie as tie
 
-read-numbers-requires : tie.Need-read-numbers-requires
-read-numbers-requires c κs = search needs
-
-exponent-at-requires : tie.Need-exponent-at-requires
-exponent-at-requires c κs = search needs
-
-add-q : tie.Need-add-q
-add-q c = search needs
-
 run-tasks-requires : tie.Need-run-tasks-requires
 run-tasks-requires c κs =
-    let b = c .before .before .before .before .before .before .before .before .before .before .before .before .before .before .before .before .before .before in
+    let (exponent-at, read-numbers, b) : tie.After-exponent-at × tie.After-read-numbers × tie.Start = search in
     let a = b .args in
     let sheet = b .pre .0 in
-    let read = c .before .before .before .before .before .before .before .before .before .read-numbers .ensures ∙ ap (λ (k : ℕ). numbersAt binary64 (now (a .s)) 1 k) (b .pre .1 .1 .0) in (
+    let read = read-numbers .read-numbers .ensures ∙ ap (λ (k : ℕ). numbersAt binary64 (now (a .s)) 1 k) (b .pre .1 .1 .0) in (
       record {
-        ready = λ k h. rw (c .before .before .before .before .before .before .exponent-at .ensures .0) (task-ready (now (a .s)) (a .n) (a .d) (a .e) (a .t) k sheet h);
+        ready = λ k h. rw (exponent-at .exponent-at .ensures .0) (task-ready (now (a .s)) (a .n) (a .d) (a .e) (a .t) k sheet h);
         few = sheet .count;
         order = sheet .most;
         matrix = read;
@@ -35,39 +26,24 @@ run-tasks-requires c κs =
       (b .pre .1 .1 .1, b .pre .1 .1 .2, b .pre .1 .1 .3),
     )
 
-same-length : tie.Need-same-length
-same-length c = search needs
-
-same-length-2 : tie.Need-same-length-2
-same-length-2 c = search needs
-
-same-length-3 : tie.Need-same-length-3
-same-length-3 c = search needs
-
-same-length-4 : tie.Need-same-length-4
-same-length-4 c = search needs
-
-same-length-5 : tie.Need-same-length-5
-same-length-5 c = search needs
-
-same-length-6 : tie.Need-same-length-6
-same-length-6 c = search needs
-
 returns : tie.Need-returns
-returns c = rw (c .before .before .before .before .before .before .before .before .before .before .before .before .before .before .before .before .before .exponent-at .ensures .0) at (c .before .before .before .before .before .before .before .before .before .before .run-tasks .ensures)
+returns c =
+    let run-tasks : tie.After-run-tasks = search in
+    let exponent-at : tie.After-exponent-at = search in
+    rw (exponent-at .exponent-at .ensures .0) at (run-tasks .run-tasks .ensures)
 
 pub run-in-spec : {M : Type 1} → statement M
 run-in-spec =
     tie.close
     (tie.spec
-    read-numbers-requires
-    exponent-at-requires
-    add-q
+    (λ c κs. search needs)
+    (λ c κs. search needs)
+    (λ c. search needs)
     run-tasks-requires
-    same-length
-    same-length-2
-    same-length-3
-    same-length-4
-    same-length-5
-    same-length-6
+    (λ c. search needs)
+    (λ c. search needs)
+    (λ c. search needs)
+    (λ c. search needs)
+    (λ c. search needs)
+    (λ c. search needs)
     returns)

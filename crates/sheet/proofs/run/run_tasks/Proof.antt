@@ -23,20 +23,22 @@ loop-holds : tie.Need-loop-holds Inv-loop μ-loop
 loop-holds c = (omega arith, omega arith, refl, refl, refl, refl, refl, rw lines-none (wrote-none _ 0 (omega arith)))
 
 mul-run-task : tie.Need-mul-run-task Inv-loop μ-loop
-mul-run-task c = let b = c .before .before .before .before .before .before .before .before .before in omega (arith, b .pre .0 .few)
+mul-run-task c = let b : tie.Start Inv-loop μ-loop = search in omega (arith, b .pre .0 .few)
 
 add-run-task : tie.Need-add-run-task Inv-loop μ-loop
-add-run-task c = let b = c .before .before .before .before .before .before .before .before .before in omega (arith, b .pre .0 .ready (c .before .loop .k) (c .loop-test .taken) .there)
+add-run-task c =
+    let (turn, head, b) : tie.In-loop Inv-loop μ-loop × tie.At-loop Inv-loop μ-loop × tie.Start Inv-loop μ-loop = search in
+    omega (arith, b .pre .0 .ready (head .loop .k) (turn .loop-test .taken) .there)
 
 add-run-task-2 : tie.Need-add-run-task-2 Inv-loop μ-loop
-add-run-task-2 c = let b = c .before .before .before .before .before .before .before .before .before .before in omega (arith, b .pre .0 .few)
+add-run-task-2 c = let b : tie.Start Inv-loop μ-loop = search in omega (arith, b .pre .0 .few)
 
 run-task-requires : tie.Need-run-task-requires Inv-loop μ-loop
 run-task-requires c κs =
-    let b = c .before .before .before .before .before .before .before .before .before .before .before .before .before .before in
+    let (turn, head, b) : tie.In-loop Inv-loop μ-loop × tie.At-loop Inv-loop μ-loop × tie.Start Inv-loop μ-loop = search in
     let a = b .args in
-    let l = c .before .before .before .before .before .before .loop in
-    let taken = c .before .before .before .before .before .loop-test .taken in
+    let l = head .loop in
+    let taken = turn .loop-test .taken in
     let room = b .pre .0 in
     let long = ap length (room .matrix) ∙ length-numbersAt binary64 (now (a .s)) 1 (a .n * a .n) in (
       record { space = omega (arith, room .few, room .space, l .inv .1, l .inv .2); number = omega (arith, room .few); order = room .order; matrix = long; workspace = l .inv .6 ∙ room .workspace },
@@ -44,17 +46,22 @@ run-task-requires c κs =
     )
 
 add-k : tie.Need-add-k Inv-loop μ-loop
-add-k c = omega (arith, c .before .before .before .before .before .before .before .before .before .before .before .before .before .before .before .before .before .before .before .before .before .before .before .before .before .pre .0 .few, c .before .before .before .before .before .before .before .before .before .before .before .before .before .before .before .before .loop-test .taken)
+add-k c =
+    let turn : tie.In-loop Inv-loop μ-loop = search in
+    let s : tie.Start Inv-loop μ-loop = search in
+    omega (arith, s .pre .0 .few, turn .loop-test .taken)
 
 loop-less : tie.Need-loop-less Inv-loop μ-loop
-loop-less c = omega (arith, c .before .before .before .before .before .before .before .before .before .before .before .before .before .before .before .before .loop-test .taken)
+loop-less c = let turn : tie.In-loop Inv-loop μ-loop = search in omega (arith, turn .loop-test .taken)
 
 loop-again : tie.Need-loop-again Inv-loop μ-loop
 loop-again c =
-    let a = c .before .before .before .before .before .before .before .before .before .before .before .before .before .before .before .before .before .before .before .before .before .before .before .before .before .args in
-    let l = c .before .before .before .before .before .before .before .before .before .before .before .before .before .before .before .before .before .loop in
-    let r = c .before .before .before .before .before .before .before .before .before .before .run-task in (
-      omega (arith, c .before .before .before .before .before .before .before .before .before .before .before .before .before .before .before .before .loop-test .taken),
+    let (run-task, turn, head, s) :
+    tie.After-run-task Inv-loop μ-loop × tie.In-loop Inv-loop μ-loop × tie.At-loop Inv-loop μ-loop × tie.Start Inv-loop μ-loop = search in
+    let a = s .args in
+    let l = head .loop in
+    let r = run-task .run-task in (
+      omega (arith, turn .loop-test .taken),
       omega (arith, l .inv .1, r .ensures .short),
       r .kept .1 .1 .1 .1 .0 ∙ l .inv .2,
       r .kept .1 .1 .1 .1 .1 .1 .1 .1 .0 ∙ l .inv .3,
@@ -65,25 +72,25 @@ loop-again c =
     )
 
 same-length : tie.Need-same-length Inv-loop μ-loop
-same-length c = c .before .loop .inv .2
+same-length c = let head : tie.At-loop Inv-loop μ-loop = search in head .loop .inv .2
 
 same-length-2 : tie.Need-same-length-2 Inv-loop μ-loop
-same-length-2 c = c .before .loop .inv .3
+same-length-2 c = let head : tie.At-loop Inv-loop μ-loop = search in head .loop .inv .3
 
 same-length-3 : tie.Need-same-length-3 Inv-loop μ-loop
-same-length-3 c = c .before .loop .inv .4
+same-length-3 c = let head : tie.At-loop Inv-loop μ-loop = search in head .loop .inv .4
 
 same-length-4 : tie.Need-same-length-4 Inv-loop μ-loop
-same-length-4 c = c .before .loop .inv .5
+same-length-4 c = let head : tie.At-loop Inv-loop μ-loop = search in head .loop .inv .5
 
 same-length-5 : tie.Need-same-length-5 Inv-loop μ-loop
-same-length-5 c = c .before .loop .inv .6
+same-length-5 c = let head : tie.At-loop Inv-loop μ-loop = search in head .loop .inv .6
 
 returns : tie.Need-returns Inv-loop μ-loop
 returns c =
-    let b = c .before .before .before .before .before .before .before .before .before in
-    let l = c .before .loop in
-    let all : l .k ≡ b .args .t = omega (arith, l .inv .0, c .loop-test .left) in
+    let (end, head, b) : tie.After-loop Inv-loop μ-loop × tie.At-loop Inv-loop μ-loop × tie.Start Inv-loop μ-loop = search in
+    let l = head .loop in
+    let all : l .k ≡ b .args .t = omega (arith, l .inv .0, end .loop-test .left) in
     record { wrote = rw all at (l .inv .7); short = omega (arith, l .inv .1, b .pre .0 .few) }
 
 pub run-tasks-spec : {M : Type 1} → statement M

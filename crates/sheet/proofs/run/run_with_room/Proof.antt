@@ -7,71 +7,72 @@ use borrow.Author.Needs.{needs}
 use Rattle.sheet.proofs.run.run_with_room.Statement.{statement}
 use Rattle.sheet.proofs.run.run_with_room.Tie as tie
 
-mul-count : tie.Need-mul-count
-mul-count c = search needs
-
-small-room-requires : tie.Need-small-room-requires
-small-room-requires c κs = search needs
-
-small-room-requires-2 : tie.Need-small-room-requires-2
-small-room-requires-2 c κs = search needs
-
-small-room-requires-3 : tie.Need-small-room-requires-3
-small-room-requires-3 c κs = search needs
-
-small-room-requires-4 : tie.Need-small-room-requires-4
-small-room-requires-4 c κs = search needs
-
 array-borrow-prefix-a : tie.Need-array-borrow-prefix-a
-array-borrow-prefix-a c = let b = c .before .before .before .before .before .before .before .before in omega (arith, square-le8 (b .args .n) (b .pre .0 .most), c .before .before .before .before .small-room .ensures)
+array-borrow-prefix-a c =
+    let small-room : tie.After-small-room = search in
+    let b : tie.Start = search in
+    omega (arith, square-le8 (b .args .n) (b .pre .0 .most), small-room .small-room .ensures)
 
 slice-aggregate-run-in : tie.Need-slice-aggregate-run-in
-slice-aggregate-run-in c = let b = c .before .before .before .before .before .before .before .before .before in sym (length-take-le _ _ (omega (arith, square-le8 (b .args .n) (b .pre .0 .most), c .before .before .before .before .before .small-room .ensures)))
+slice-aggregate-run-in c =
+    let small-room : tie.After-small-room = search in
+    let b : tie.Start = search in
+    sym (length-take-le _ _ (omega (arith, square-le8 (b .args .n) (b .pre .0 .most), small-room .small-room .ensures)))
 
 array-borrow-prefix-x : tie.Need-array-borrow-prefix-x
-array-borrow-prefix-x c = let b = c .before .before .before .before .before .before .before .before .before in omega (arith, square-le8 (b .args .n) (b .pre .0 .most), c .before .before .before .before .small-room2 .ensures)
+array-borrow-prefix-x c =
+    let small-room2 : tie.After-small-room2 = search in
+    let b : tie.Start = search in
+    omega (arith, square-le8 (b .args .n) (b .pre .0 .most), small-room2 .small-room2 .ensures)
 
 slice-aggregate-run-in-2 : tie.Need-slice-aggregate-run-in-2
-slice-aggregate-run-in-2 c = let b = c .before .before .before .before .before .before .before .before .before .before in sym (length-take-le _ _ (omega (arith, square-le8 (b .args .n) (b .pre .0 .most), c .before .before .before .before .before .small-room2 .ensures)))
+slice-aggregate-run-in-2 c =
+    let small-room2 : tie.After-small-room2 = search in
+    let b : tie.Start = search in
+    sym (length-take-le _ _ (omega (arith, square-le8 (b .args .n) (b .pre .0 .most), small-room2 .small-room2 .ensures)))
 
 array-borrow-prefix-y : tie.Need-array-borrow-prefix-y
-array-borrow-prefix-y c = let b = c .before .before .before .before .before .before .before .before .before .before in omega (arith, square-le8 (b .args .n) (b .pre .0 .most), c .before .before .before .before .small-room3 .ensures)
+array-borrow-prefix-y c =
+    let small-room3 : tie.After-small-room3 = search in
+    let b : tie.Start = search in
+    omega (arith, square-le8 (b .args .n) (b .pre .0 .most), small-room3 .small-room3 .ensures)
 
 slice-aggregate-run-in-3 : tie.Need-slice-aggregate-run-in-3
-slice-aggregate-run-in-3 c = let b = c .before .before .before .before .before .before .before .before .before .before .before in sym (length-take-le _ _ (omega (arith, square-le8 (b .args .n) (b .pre .0 .most), c .before .before .before .before .before .small-room3 .ensures)))
+slice-aggregate-run-in-3 c =
+    let small-room3 : tie.After-small-room3 = search in
+    let b : tie.Start = search in
+    sym (length-take-le _ _ (omega (arith, square-le8 (b .args .n) (b .pre .0 .most), small-room3 .small-room3 .ensures)))
 
 array-borrow-prefix-z : tie.Need-array-borrow-prefix-z
-array-borrow-prefix-z c = let b = c .before .before .before .before .before .before .before .before .before .before .before in omega (arith, square-le8 (b .args .n) (b .pre .0 .most), c .before .before .before .before .small-room4 .ensures)
+array-borrow-prefix-z c =
+    let small-room4 : tie.After-small-room4 = search in
+    let b : tie.Start = search in
+    omega (arith, square-le8 (b .args .n) (b .pre .0 .most), small-room4 .small-room4 .ensures)
 
 slice-aggregate-run-in-4 : tie.Need-slice-aggregate-run-in-4
-slice-aggregate-run-in-4 c = let b = c .before .before .before .before .before .before .before .before .before .before .before .before in sym (length-take-le _ _ (omega (arith, square-le8 (b .args .n) (b .pre .0 .most), c .before .before .before .before .before .small-room4 .ensures)))
+slice-aggregate-run-in-4 c =
+    let small-room4 : tie.After-small-room4 = search in
+    let b : tie.Start = search in
+    sym (length-take-le _ _ (omega (arith, square-le8 (b .args .n) (b .pre .0 .most), small-room4 .small-room4 .ensures)))
 
 run-in-requires : tie.Need-run-in-requires
 run-in-requires c κs =
-    let b = c .before .before .before .before .before .before .before .before .before .before .before .before .before in
+    let (small-room4, small-room3, small-room2, small-room, b) :
+    tie.After-small-room4 × tie.After-small-room3 × tie.After-small-room2 × tie.After-small-room × tie.Start = search in
     let few = square-le8 (b .args .n) (b .pre .0 .most) in (
       b .pre .0,
-      (b .pre .1, (length-take-le _ _ (omega (arith, few, c .before .before .before .before .before .before .before .before .before .small-room .ensures)), length-take-le _ _ (omega (arith, few, c .before .before .before .before .before .before .before .before .small-room2 .ensures)), length-take-le _ _ (omega (arith, few, c .before .before .before .before .before .before .before .small-room3 .ensures)), length-take-le _ _ (omega (arith, few, c .before .before .before .before .before .before .small-room4 .ensures)))),
+      (b .pre .1, (length-take-le _ _ (omega (arith, few, small-room .small-room .ensures)), length-take-le _ _ (omega (arith, few, small-room2 .small-room2 .ensures)), length-take-le _ _ (omega (arith, few, small-room3 .small-room3 .ensures)), length-take-le _ _ (omega (arith, few, small-room4 .small-room4 .ensures)))),
     )
-
-same-length : tie.Need-same-length
-same-length c = search needs
-
-same-length-2 : tie.Need-same-length-2
-same-length-2 c = search needs
-
-returns : tie.Need-returns
-returns c = search needs
 
 pub run-with-room-spec : {M : Type 1} → statement M
 run-with-room-spec =
     tie.close
     (tie.spec
-    mul-count
-    small-room-requires
-    small-room-requires-2
-    small-room-requires-3
-    small-room-requires-4
+    (λ c. search needs)
+    (λ c κs. search needs)
+    (λ c κs. search needs)
+    (λ c κs. search needs)
+    (λ c κs. search needs)
     array-borrow-prefix-a
     slice-aggregate-run-in
     array-borrow-prefix-x
@@ -81,6 +82,6 @@ run-with-room-spec =
     array-borrow-prefix-z
     slice-aggregate-run-in-4
     run-in-requires
-    same-length
-    same-length-2
-    returns)
+    (λ c. search needs)
+    (λ c. search needs)
+    (λ c. search needs))

@@ -8,121 +8,69 @@ use borrow.Author.Needs.{needs}
 use Rattle.sheet.proofs.task.value.Statement.{statement}
 use Rattle.sheet.proofs.task.value.Tie as tie
 
-expm-with-requires : tie.Need-expm-with-requires
-expm-with-requires c κs = search needs
-
-same-length : tie.Need-same-length
-same-length c = search needs
-
-same-length-2 : tie.Need-same-length-2
-same-length-2 c = search needs
-
 returns : tie.Need-returns
 returns c =
-    let b = c .before .before .before .before .before .before .before .before .before .before .before in
+    let (expm-with, taken1, b) : tie.After-expm-with × tie.Then1 × tie.Start = search in
     let a = b .args in
-    chosen-one (a .n) (λ (x w : ℕ). expm binary64 (a .n) (a .n) (now (a .a)) x w) _ _ _ _ _ _ (b .pre .0) (b .pre .1) (value-0 binary64 (a .n) (now (a .a)) (a .p) (a .code) (c .before .before .before .before .before .before .before .if1 .taken)) (c .before .before .before .before .expm-with .ensures)
-
-logm-with-requires : tie.Need-logm-with-requires
-logm-with-requires c κs = search needs
-
-same-length-3 : tie.Need-same-length-3
-same-length-3 c = search needs
-
-same-length-4 : tie.Need-same-length-4
-same-length-4 c = search needs
+    chosen-one (a .n) (λ (x w : ℕ). expm binary64 (a .n) (a .n) (now (a .a)) x w) _ _ _ _ _ _ (b .pre .0) (b .pre .1) (value-0 binary64 (a .n) (now (a .a)) (a .p) (a .code) (taken1 .if1 .taken)) (expm-with .expm-with .ensures)
 
 returns-2 : tie.Need-returns-2
 returns-2 c =
-    let b = c .before .before .before .before .before .before .before .before .before .before .before .before in
+    let (logm-with, taken2, left1, b) : tie.After-logm-with × tie.Then2 × tie.Else1 × tie.Start = search in
     let a = b .args in
-    chosen-one (a .n) (λ (x w : ℕ). logm binary64 (a .n) (a .n) (now (a .a)) x w) _ _ _ _ _ _ (b .pre .0) (b .pre .1) (value-1 binary64 (a .n) (now (a .a)) (a .p) (a .code) (c .before .before .before .before .before .before .before .before .if1 .left) (c .before .before .before .before .before .before .before .if2 .taken)) (c .before .before .before .before .logm-with .ensures)
-
-sqrtm-with-requires : tie.Need-sqrtm-with-requires
-sqrtm-with-requires c κs = search needs
-
-same-length-5 : tie.Need-same-length-5
-same-length-5 c = search needs
-
-same-length-6 : tie.Need-same-length-6
-same-length-6 c = search needs
+    chosen-one (a .n) (λ (x w : ℕ). logm binary64 (a .n) (a .n) (now (a .a)) x w) _ _ _ _ _ _ (b .pre .0) (b .pre .1) (value-1 binary64 (a .n) (now (a .a)) (a .p) (a .code) (left1 .if1 .left) (taken2 .if2 .taken)) (logm-with .logm-with .ensures)
 
 returns-3 : tie.Need-returns-3
 returns-3 c =
-    let b = c .before .before .before .before .before .before .before .before .before .before .before .before .before in
+    let (sqrtm-with, taken3, left2, left1, b) : tie.After-sqrtm-with × tie.Then3 × tie.Else2 × tie.Else1 × tie.Start = search in
     let a = b .args in
-    chosen-one (a .n) (λ (x w : ℕ). sqrtm binary64 (a .n) (a .n) (now (a .a)) x w) _ _ _ _ _ _ (b .pre .0) (b .pre .1) (value-2 binary64 (a .n) (now (a .a)) (a .p) (a .code) (c .before .before .before .before .before .before .before .before .before .if1 .left) (c .before .before .before .before .before .before .before .before .if2 .left) (c .before .before .before .before .before .before .before .if3 .taken)) (c .before .before .before .before .sqrtm-with .ensures)
-
-powm-with-requires : tie.Need-powm-with-requires
-powm-with-requires c κs = search needs
-
-same-length-7 : tie.Need-same-length-7
-same-length-7 c = search needs
-
-same-length-8 : tie.Need-same-length-8
-same-length-8 c = search needs
+    chosen-one (a .n) (λ (x w : ℕ). sqrtm binary64 (a .n) (a .n) (now (a .a)) x w) _ _ _ _ _ _ (b .pre .0) (b .pre .1) (value-2 binary64 (a .n) (now (a .a)) (a .p) (a .code) (left1 .if1 .left) (left2 .if2 .left) (taken3 .if3 .taken)) (sqrtm-with .sqrtm-with .ensures)
 
 returns-4 : tie.Need-returns-4
 returns-4 c =
-    let b = c .before .before .before .before .before .before .before .before .before .before .before .before .before .before in
+    let (powm-with, taken4, left3, left2, left1, b) : tie.After-powm-with × tie.Then4 × tie.Else3 × tie.Else2 × tie.Else1 × tie.Start = search in
     let a = b .args in
-    chosen-one (a .n) (λ (x w : ℕ). powm binary64 (a .n) (a .n) (now (a .a)) x w (a .p)) _ _ _ _ _ _ (b .pre .0) (b .pre .1) (value-3 binary64 (a .n) (now (a .a)) (a .p) (a .code) (c .before .before .before .before .before .before .before .before .before .before .if1 .left) (c .before .before .before .before .before .before .before .before .before .if2 .left) (c .before .before .before .before .before .before .before .before .if3 .left) (c .before .before .before .before .before .before .before .if4 .taken)) (c .before .before .before .before .powm-with .ensures)
-
-cosm-with-requires : tie.Need-cosm-with-requires
-cosm-with-requires c κs = search needs
-
-same-length-9 : tie.Need-same-length-9
-same-length-9 c = search needs
-
-same-length-10 : tie.Need-same-length-10
-same-length-10 c = search needs
+    chosen-one (a .n) (λ (x w : ℕ). powm binary64 (a .n) (a .n) (now (a .a)) x w (a .p)) _ _ _ _ _ _ (b .pre .0) (b .pre .1) (value-3 binary64 (a .n) (now (a .a)) (a .p) (a .code) (left1 .if1 .left) (left2 .if2 .left) (left3 .if3 .left) (taken4 .if4 .taken)) (powm-with .powm-with .ensures)
 
 returns-5 : tie.Need-returns-5
 returns-5 c =
-    let b = c .before .before .before .before .before .before .before .before .before .before .before .before .before .before .before in
+    let (cosm-with, taken5, left4, left3, left2, left1, b) :
+    tie.After-cosm-with × tie.Then5 × tie.Else4 × tie.Else3 × tie.Else2 × tie.Else1 × tie.Start = search in
     let a = b .args in
-    chosen-one (a .n) (λ (x w : ℕ). cosm binary64 (a .n) (a .n) (now (a .a)) x w) _ _ _ _ _ _ (b .pre .0) (b .pre .1) (value-4 binary64 (a .n) (now (a .a)) (a .p) (a .code) (c .before .before .before .before .before .before .before .before .before .before .before .if1 .left) (c .before .before .before .before .before .before .before .before .before .before .if2 .left) (c .before .before .before .before .before .before .before .before .before .if3 .left) (c .before .before .before .before .before .before .before .before .if4 .left) (c .before .before .before .before .before .before .before .if5 .taken)) (c .before .before .before .before .cosm-with .ensures)
-
-sinm-with-requires : tie.Need-sinm-with-requires
-sinm-with-requires c κs = search needs
-
-same-length-11 : tie.Need-same-length-11
-same-length-11 c = search needs
-
-same-length-12 : tie.Need-same-length-12
-same-length-12 c = search needs
+    chosen-one (a .n) (λ (x w : ℕ). cosm binary64 (a .n) (a .n) (now (a .a)) x w) _ _ _ _ _ _ (b .pre .0) (b .pre .1) (value-4 binary64 (a .n) (now (a .a)) (a .p) (a .code) (left1 .if1 .left) (left2 .if2 .left) (left3 .if3 .left) (left4 .if4 .left) (taken5 .if5 .taken)) (cosm-with .cosm-with .ensures)
 
 returns-6 : tie.Need-returns-6
 returns-6 c =
-    let b = c .before .before .before .before .before .before .before .before .before .before .before .before .before .before .before in
+    let (sinm-with, left5, left4, left3, left2, left1, b) :
+    tie.After-sinm-with × tie.Else5 × tie.Else4 × tie.Else3 × tie.Else2 × tie.Else1 × tie.Start = search in
     let a = b .args in
-    chosen-one (a .n) (λ (x w : ℕ). sinm binary64 (a .n) (a .n) (now (a .a)) x w) _ _ _ _ _ _ (b .pre .0) (b .pre .1) (value-5 binary64 (a .n) (now (a .a)) (a .p) (a .code) (c .before .before .before .before .before .before .before .before .before .before .before .if1 .left) (c .before .before .before .before .before .before .before .before .before .before .if2 .left) (c .before .before .before .before .before .before .before .before .before .if3 .left) (c .before .before .before .before .before .before .before .before .if4 .left) (c .before .before .before .before .before .before .before .if5 .left)) (c .before .before .before .before .sinm-with .ensures)
+    chosen-one (a .n) (λ (x w : ℕ). sinm binary64 (a .n) (a .n) (now (a .a)) x w) _ _ _ _ _ _ (b .pre .0) (b .pre .1) (value-5 binary64 (a .n) (now (a .a)) (a .p) (a .code) (left1 .if1 .left) (left2 .if2 .left) (left3 .if3 .left) (left4 .if4 .left) (left5 .if5 .left)) (sinm-with .sinm-with .ensures)
 
 pub value-spec : {M : Type 1} → statement M
 value-spec =
     tie.close
     (tie.spec
-    expm-with-requires
-    same-length
-    same-length-2
+    (λ c κs. search needs)
+    (λ c. search needs)
+    (λ c. search needs)
     returns
-    logm-with-requires
-    same-length-3
-    same-length-4
+    (λ c κs. search needs)
+    (λ c. search needs)
+    (λ c. search needs)
     returns-2
-    sqrtm-with-requires
-    same-length-5
-    same-length-6
+    (λ c κs. search needs)
+    (λ c. search needs)
+    (λ c. search needs)
     returns-3
-    powm-with-requires
-    same-length-7
-    same-length-8
+    (λ c κs. search needs)
+    (λ c. search needs)
+    (λ c. search needs)
     returns-4
-    cosm-with-requires
-    same-length-9
-    same-length-10
+    (λ c κs. search needs)
+    (λ c. search needs)
+    (λ c. search needs)
     returns-5
-    sinm-with-requires
-    same-length-11
-    same-length-12
+    (λ c κs. search needs)
+    (λ c. search needs)
+    (λ c. search needs)
     returns-6)

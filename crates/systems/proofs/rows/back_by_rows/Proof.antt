@@ -21,69 +21,57 @@ Inv-loop w₀ f x n m q₀ y₀ i₀ w q y i =
 abbrev μ-loop : tie.MeasureT-loop
 μ-loop w₀ f x n m q₀ y₀ i₀ w q y i = i
 
-mul-q : tie.Need-mul-q Inv-loop μ-loop
-mul-q c = omega arith
-
-add-q : tie.Need-add-q Inv-loop μ-loop
-add-q c = omega arith
-
-mul-y : tie.Need-mul-y Inv-loop μ-loop
-mul-y c = omega arith
-
-add-y : tie.Need-add-y Inv-loop μ-loop
-add-y c = omega arith
-
 loop-holds : tie.Need-loop-holds Inv-loop μ-loop
 loop-holds c =
-    let s = c .before in
+    let s : tie.Start Inv-loop μ-loop = search in
     let a = s .args in
     (omega arith, refl, refl, refl, back-rows-none binary64 (a .f) (a .x) (a .n) (a .m) (a .w .now) (a .w .now) (s .pre .1) (s .pre .2))
 
-sub-k : tie.Need-sub-k Inv-loop μ-loop
-sub-k c = omega arith
-
-sub-i : tie.Need-sub-i Inv-loop μ-loop
-sub-i c = omega arith
-
 sub-q : tie.Need-sub-q Inv-loop μ-loop
-sub-q c = omega (arith, row-down (c .before .loop .i) (c .before .before .before .args .n) (c .loop-test .taken))
+sub-q c =
+    let (turn, head, s) : tie.In-loop Inv-loop μ-loop × tie.At-loop Inv-loop μ-loop × tie.Start Inv-loop μ-loop = search in
+    omega (arith, row-down (head .loop .i) (s .args .n) (turn .loop-test .taken))
 
 sub-y : tie.Need-sub-y Inv-loop μ-loop
-sub-y c = omega (arith, row-down (c .before .loop .i) (c .before .before .before .args .m) (c .loop-test .taken))
+sub-y c =
+    let (turn, head, s) : tie.In-loop Inv-loop μ-loop × tie.At-loop Inv-loop μ-loop × tie.Start Inv-loop μ-loop = search in
+    omega (arith, row-down (head .loop .i) (s .args .m) (turn .loop-test .taken))
 
 -- in a turn the row of the factors lies within them
-inside : (c : tie.In-loop Inv-loop μ-loop) → c .before .loop .q ≤ c .before .before .before .args .f + c .before .before .before .args .n * c .before .before .before .args .n
+inside : (c : tie.In-loop Inv-loop μ-loop) →
+    let s : tie.Start Inv-loop μ-loop = search in
+    c .before .loop .q ≤ s .args .f + s .args .n * s .args .n
 inside c =
+    let s : tie.Start Inv-loop μ-loop = search in
     let l = c .before .loop in
-    let a = c .before .before .before .args in
+    let a = s .args in
     let h : l .i - 1 < a .n = omega arith in
     omega (arith, row-down (l .i) (a .n) (c .loop-test .taken), row-end (l .i - 1) (a .n) (a .n) h)
 
 add-upper-row : tie.Need-add-upper-row Inv-loop μ-loop
-add-upper-row c = omega (arith, inside (c .before), row-down (c .before .before .loop .i) (c .before .before .before .before .args .n) (c .before .loop-test .taken))
+add-upper-row c =
+    let (turn, head, s) : tie.In-loop Inv-loop μ-loop × tie.At-loop Inv-loop μ-loop × tie.Start Inv-loop μ-loop = search in
+    omega (arith, inside turn, row-down (head .loop .i) (s .args .n) (turn .loop-test .taken))
 
 upper-row-requires : tie.Need-upper-row-requires Inv-loop μ-loop
 upper-row-requires c κs =
-    let s = c .before .before .before .before in
+    let (turn, head, s) : tie.In-loop Inv-loop μ-loop × tie.At-loop Inv-loop μ-loop × tie.Start Inv-loop μ-loop = search in
     let a = s .args in
-    let l = c .before .before .loop in
-    let t = c .before .loop-test .taken in
+    let l = head .loop in
+    let t = turn .loop-test .taken in
     let e : l .i - 1 + suc (a .n - l .i) ≡ a .n = omega arith in
-    let b = inside (c .before) in
+    let b = inside turn in
     let d = row-down (l .i) (a .n) t in
     let g = row-down (l .i) (a .m) t in
     let r = rows-from (l .i - 1) (a .n - l .i) (a .n) (a .m) e in
     (omega arith, omega arith, apart-within _ _ _ _ _ _ _ _ (s .pre .2) (omega arith) (omega arith) (omega arith) (omega arith))
 
-loop-less : tie.Need-loop-less Inv-loop μ-loop
-loop-less c = omega arith
-
 loop-again : tie.Need-loop-again Inv-loop μ-loop
 loop-again c =
-    let row = c .before .before .upper-row in
-    let turn = c .before .before .before .before in
-    let l = turn .before .loop in
-    let s = turn .before .before .before in
+    let (upper-row, turn, head, s) :
+    tie.After-upper-row Inv-loop μ-loop × tie.In-loop Inv-loop μ-loop × tie.At-loop Inv-loop μ-loop × tie.Start Inv-loop μ-loop = search in
+    let row = upper-row .upper-row in
+    let l = head .loop in
     let a = s .args in
     let d = row-down (l .i) (a .n) (turn .loop-test .taken) in
     let g = row-down (l .i) (a .m) (turn .loop-test .taken) in (
@@ -95,13 +83,11 @@ loop-again c =
           (omega arith) (omega arith) (omega arith) (omega arith) (l .inv .4) (row .ensures),
     )
 
-same-length : tie.Need-same-length Inv-loop μ-loop
-same-length c = omega arith
-
 returns : tie.Need-returns Inv-loop μ-loop
 returns c =
-    let l = c .before .loop in
-    let s = c .before .before .before in
+    let head : tie.At-loop Inv-loop μ-loop = search in
+    let s : tie.Start Inv-loop μ-loop = search in
+    let l = head .loop in
     let a = s .args in
     back-rows-all binary64 (a .f) (a .x) (a .n) (a .m) (a .w .now) (l .w) (s .pre .1) (s .pre .2) (l .i) (omega arith) (l .inv .4)
 
@@ -111,18 +97,18 @@ back-by-rows-spec =
     (tie.spec
     Inv-loop
     μ-loop
-    mul-q
-    add-q
-    mul-y
-    add-y
+    (λ c. omega arith)
+    (λ c. omega arith)
+    (λ c. omega arith)
+    (λ c. omega arith)
     loop-holds
-    sub-k
-    sub-i
+    (λ c. omega arith)
+    (λ c. omega arith)
     sub-q
     sub-y
     add-upper-row
     upper-row-requires
-    loop-less
+    (λ c. omega arith)
     loop-again
-    same-length
+    (λ c. omega arith)
     returns)

@@ -22,30 +22,23 @@ abbrev μ-loop : tie.MeasureT-loop
 loop-holds : tie.Need-loop-holds Inv-loop μ-loop
 unfolding back
 loop-holds c =
-    let s = c .before in
+    let s : tie.Start Inv-loop μ-loop = search in
     let a = s .args in
     let e : a .n - a .n ≡ 0 = omega arith in
     (omega arith, refl, rw e (sym (put-part (a .w .now) (a .x) (a .n) (s .pre .1))))
 
-sub-k : tie.Need-sub-k Inv-loop μ-loop
-sub-k c = search needs
-
 back-column-step-requires : tie.Need-back-column-step-requires Inv-loop μ-loop
 back-column-step-requires c κs =
-    let turn = c .before in
-    let l = turn .before .loop in
-    let s = turn .before .before .before in
+    let head : tie.At-loop Inv-loop μ-loop = search in
+    let s : tie.Start Inv-loop μ-loop = search in
+    let l = head .loop in
     (omega arith, omega (arith, s .pre .0, l .inv .1), omega (arith, s .pre .1, l .inv .1), s .pre .2)
-
-loop-less : tie.Need-loop-less Inv-loop μ-loop
-loop-less c = search needs
 
 loop-again : tie.Need-loop-again Inv-loop μ-loop
 loop-again c =
-    let call = c .before .before in
-    let turn = call .before .before in
-    let l = turn .before .loop in
-    let s = turn .before .before .before in
+    let (call, turn, head, s) :
+    tie.After-back-column-step Inv-loop μ-loop × tie.In-loop Inv-loop μ-loop × tie.At-loop Inv-loop μ-loop × tie.Start Inv-loop μ-loop = search in
+    let l = head .loop in
     let a = s .args in (
       omega (arith, l .inv .0),
       call .back-column-step .kept .0 ∙ l .inv .1,
@@ -53,13 +46,12 @@ loop-again c =
           (l .k) (turn .loop-test .taken) (l .inv .0) (l .inv .2) (call .back-column-step .ensures),
     )
 
-same-length : tie.Need-same-length Inv-loop μ-loop
-same-length c = search needs
-
 returns : tie.Need-returns Inv-loop μ-loop
 returns c =
-    let l = c .before .loop in
-    let n = c .before .before .before .args .n in
+    let head : tie.At-loop Inv-loop μ-loop = search in
+    let s : tie.Start Inv-loop μ-loop = search in
+    let l = head .loop in
+    let n = s .args .n in
     let e : n - l .k ≡ n = omega arith in
     rw e at (l .inv .2)
 
@@ -70,9 +62,9 @@ back-column-spec =
     Inv-loop
     μ-loop
     loop-holds
-    sub-k
+    (λ c. search needs)
     back-column-step-requires
-    loop-less
+    (λ c. search needs)
     loop-again
-    same-length
+    (λ c. search needs)
     returns)

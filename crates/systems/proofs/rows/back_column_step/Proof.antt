@@ -9,43 +9,21 @@ use borrow.Author.Needs.{needs}
 use Rattle.systems.proofs.rows.back_column_step.Statement.{statement}
 use Rattle.systems.proofs.rows.back_column_step.Tie as tie
 
-add-w : tie.Need-add-w
-add-w c = search needs
-
-mul-w : tie.Need-mul-w
-mul-w c = search needs
-
-slice-read-w : tie.Need-slice-read-w
-slice-read-w c = search needs
-
-factor-at-requires : tie.Need-factor-at-requires
-factor-at-requires c κs = search needs
-
-add-w-2 : tie.Need-add-w-2
-add-w-2 c = search needs
-
-mul-w-2 : tie.Need-mul-w-2
-mul-w-2 c = search needs
-
-slice-write-w : tie.Need-slice-write-w
-slice-write-w c = search needs
-
 lower-column-requires : tie.Need-lower-column-requires
 lower-column-requires c κs =
-    let s = c .before .before .before .before .before in
+    let s : tie.Start = search in
     ((s .pre .0, omega arith, omega (arith, s .pre .0)), (simp length-set (s .pre .1), simp length-set (s .pre .2), s .pre .3))
 
 same-length : tie.Need-same-length
 same-length c =
-    let call = c .before .before in
-    let a = call .before .before .before .before .before .before .args in
+    let call : tie.After-lower-column = search in
+    let s : tie.Start = search in
+    let a = s .args in
     call .lower-column .kept .0 ∙ length-set (a .w .now) (a .x + a .k) _
 
 returns : tie.Need-returns
 returns c =
-    let call = c .before .before in
-    let read = call .before .before in
-    let s = read .before .before .before .before in
+    let (call, read, s) : tie.After-lower-column × tie.After-factor-at × tie.Start = search in
     let a = s .args in
     back-column-step-is binary64 (a .f) (a .x) (a .n) (a .w .now) _ (call .lower-column .last .0) (s .pre .2) (s .pre .3) (a .k) (read .factor-at .result)
     (s .pre .0) (read .factor-at .ensures) refl (call .lower-column .ensures)
@@ -54,13 +32,13 @@ pub back-column-step-spec : {M : Type 1} → statement M
 back-column-step-spec =
     tie.close
     (tie.spec
-    add-w
-    mul-w
-    slice-read-w
-    factor-at-requires
-    add-w-2
-    mul-w-2
-    slice-write-w
+    (λ c. search needs)
+    (λ c. search needs)
+    (λ c. search needs)
+    (λ c κs. search needs)
+    (λ c. search needs)
+    (λ c. search needs)
+    (λ c. search needs)
     lower-column-requires
     same-length
     returns)

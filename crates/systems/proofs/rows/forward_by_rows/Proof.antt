@@ -24,17 +24,17 @@ abbrev μ-loop : tie.MeasureT-loop
 
 loop-holds : tie.Need-loop-holds Inv-loop μ-loop
 loop-holds c =
-    let s = c .before in
+    let s : tie.Start Inv-loop μ-loop = search in
     let a = s .args in
     (omega arith, refl, omega (arith, zero-mul (a .n)), omega (arith, zero-mul (a .m)), forward-rows-none binary64 (a .f) (a .x) (a .n) (a .m) (a .w .now) (a .w .now) (s .pre .1) (s .pre .2))
 
 lower-row-requires : tie.Need-lower-row-requires Inv-loop μ-loop
 lower-row-requires c κs =
-    let s = c .before .before .before .before in
+    let (turn, head, s) : tie.In-loop Inv-loop μ-loop × tie.At-loop Inv-loop μ-loop × tie.Start Inv-loop μ-loop = search in
     let a = s .args in
-    let i = c .before .before .loop .i in
-    let h = row-end i (a .n) (a .n) (c .before .loop-test .taken) in
-    let r = row-end i (a .n) (a .m) (c .before .loop-test .taken) in (
+    let i = head .loop .i in
+    let h = row-end i (a .n) (a .n) (turn .loop-test .taken) in
+    let r = row-end i (a .n) (a .m) (turn .loop-test .taken) in (
       omega arith,
       omega arith,
       omega arith,
@@ -44,28 +44,22 @@ lower-row-requires c κs =
 
 add-q : tie.Need-add-q Inv-loop μ-loop
 add-q c =
-    let turn = c .before .before .before .before in
-    let a = turn .before .before .before .args in
-    omega (arith, row-end (turn .before .loop .i) (a .n) (a .n) (turn .loop-test .taken))
+    let (turn, head, s) : tie.In-loop Inv-loop μ-loop × tie.At-loop Inv-loop μ-loop × tie.Start Inv-loop μ-loop = search in
+    let a = s .args in
+    omega (arith, row-end (head .loop .i) (a .n) (a .n) (turn .loop-test .taken))
 
 add-y : tie.Need-add-y Inv-loop μ-loop
 add-y c =
-    let turn = c .before .before .before .before in
-    let a = turn .before .before .before .args in
-    omega (arith, row-end (turn .before .loop .i) (a .n) (a .m) (turn .loop-test .taken))
-
-add-i : tie.Need-add-i Inv-loop μ-loop
-add-i c = omega arith
-
-loop-less : tie.Need-loop-less Inv-loop μ-loop
-loop-less c = omega arith
+    let (turn, head, s) : tie.In-loop Inv-loop μ-loop × tie.At-loop Inv-loop μ-loop × tie.Start Inv-loop μ-loop = search in
+    let a = s .args in
+    omega (arith, row-end (head .loop .i) (a .n) (a .m) (turn .loop-test .taken))
 
 loop-again : tie.Need-loop-again Inv-loop μ-loop
 loop-again c =
-    let row = c .before .before .lower-row in
-    let turn = c .before .before .before .before in
-    let l = turn .before .loop in
-    let s = turn .before .before .before in
+    let (lower-row, turn, head, s) :
+    tie.After-lower-row Inv-loop μ-loop × tie.In-loop Inv-loop μ-loop × tie.At-loop Inv-loop μ-loop × tie.Start Inv-loop μ-loop = search in
+    let row = lower-row .lower-row in
+    let l = head .loop in
     let a = s .args in (
       omega arith,
       row .kept .0 ∙ l .inv .1,
@@ -75,13 +69,11 @@ loop-again c =
           (rw (l .inv .2, l .inv .3) at (row .ensures)),
     )
 
-same-length : tie.Need-same-length Inv-loop μ-loop
-same-length c = omega arith
-
 returns : tie.Need-returns Inv-loop μ-loop
 returns c =
-    let l = c .before .loop in
-    let s = c .before .before .before in
+    let head : tie.At-loop Inv-loop μ-loop = search in
+    let s : tie.Start Inv-loop μ-loop = search in
+    let l = head .loop in
     let a = s .args in
     forward-rows-all binary64 (a .f) (a .x) (a .n) (a .m) (a .w .now) (l .w) (s .pre .1) (s .pre .2) (l .i) (omega arith) (l .inv .4)
 
@@ -95,8 +87,8 @@ forward-by-rows-spec =
     lower-row-requires
     add-q
     add-y
-    add-i
-    loop-less
+    (λ c. omega arith)
+    (λ c. omega arith)
     loop-again
-    same-length
+    (λ c. omega arith)
     returns)

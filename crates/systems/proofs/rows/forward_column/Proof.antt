@@ -21,30 +21,19 @@ abbrev μ-loop : tie.MeasureT-loop
 
 loop-holds : tie.Need-loop-holds Inv-loop μ-loop
 unfolding forward
-loop-holds c = let s = c .before in (omega arith, refl, sym (put-part (s .args .w .now) (s .args .x) (s .args .n) (s .pre .1)))
-
-add-lower-column : tie.Need-add-lower-column Inv-loop μ-loop
-add-lower-column c = search needs
+loop-holds c = let s : tie.Start Inv-loop μ-loop = search in (omega arith, refl, sym (put-part (s .args .w .now) (s .args .x) (s .args .n) (s .pre .1)))
 
 lower-column-requires : tie.Need-lower-column-requires Inv-loop μ-loop
 lower-column-requires c κs =
-    let turn = c .before in
-    let l = turn .before .loop in
-    let s = turn .before .before .before in
+    let (turn, head, s) : tie.In-loop Inv-loop μ-loop × tie.At-loop Inv-loop μ-loop × tie.Start Inv-loop μ-loop = search in
+    let l = head .loop in
     ((turn .loop-test .taken, omega arith, omega arith), (omega (arith, s .pre .0, l .inv .1), omega (arith, s .pre .1, l .inv .1), s .pre .2))
-
-add-k : tie.Need-add-k Inv-loop μ-loop
-add-k c = search needs
-
-loop-less : tie.Need-loop-less Inv-loop μ-loop
-loop-less c = search needs
 
 loop-again : tie.Need-loop-again Inv-loop μ-loop
 loop-again c =
-    let call = c .before .before in
-    let turn = call .before .before in
-    let l = turn .before .loop in
-    let s = turn .before .before .before in
+    let (call, turn, head, s) :
+    tie.After-lower-column Inv-loop μ-loop × tie.In-loop Inv-loop μ-loop × tie.At-loop Inv-loop μ-loop × tie.Start Inv-loop μ-loop = search in
+    let l = head .loop in
     let a = s .args in (
       omega (arith, turn .loop-test .taken),
       call .lower-column .kept .0 ∙ l .inv .1,
@@ -52,13 +41,12 @@ loop-again c =
           (l .k) (turn .loop-test .taken) (l .inv .2) (call .lower-column .ensures),
     )
 
-same-length : tie.Need-same-length Inv-loop μ-loop
-same-length c = search needs
-
 returns : tie.Need-returns Inv-loop μ-loop
 returns c =
-    let e : c .before .loop .k ≡ c .before .before .before .args .n = omega arith in
-    rw e at (c .before .loop .inv .2)
+    let head : tie.At-loop Inv-loop μ-loop = search in
+    let s : tie.Start Inv-loop μ-loop = search in
+    let e : head .loop .k ≡ s .args .n = omega arith in
+    rw e at (head .loop .inv .2)
 
 pub forward-column-spec : {M : Type 1} → statement M
 forward-column-spec =
@@ -67,10 +55,10 @@ forward-column-spec =
     Inv-loop
     μ-loop
     loop-holds
-    add-lower-column
+    (λ c. search needs)
     lower-column-requires
-    add-k
-    loop-less
+    (λ c. search needs)
+    (λ c. search needs)
     loop-again
-    same-length
+    (λ c. search needs)
     returns)

@@ -14,33 +14,27 @@ use Rattle.systems.proofs.rows.forward_rows.Tie as tie
 
 forward-column-requires : tie.Need-forward-column-requires
 forward-column-requires c κs =
-    let s = c .before .before .before in
+    let taken1 : tie.Then1 = search in
+    let s : tie.Start = search in
     let a = s .args in
-    let e : a .n * a .m ≡ a .n = rw (c .before .if1 .taken) (mul-one (a .n)) in
+    let e : a .n * a .m ≡ a .n = rw (taken1 .if1 .taken) (mul-one (a .n)) in
     (s .pre .0, rw e at (s .pre .1), rw e at (s .pre .2))
 
 forward-by-rows-requires : tie.Need-forward-by-rows-requires
-forward-by-rows-requires c κs = c .before .before .before .pre
-
-same-length : tie.Need-same-length
-same-length c = search needs
+forward-by-rows-requires c κs = let s : tie.Start = search in s .pre
 
 returns : tie.Need-returns
 returns c =
-    let call = c .before .before in
-    let test = call .before .before in
-    let a = test .before .before .args in
+    let (call, test, s) : tie.After-forward-column × tie.Then1 × tie.Start = search in
+    let a = s .args in
     let F = part (a .w .now) (a .f) (a .n * a .n) in
     let l = part (a .w .now) (a .x) (a .n) in
     rw (test .if1 .taken)
     (call .forward-column .ensures
     ∙ each-one (a .w .now) (a .x) (a .n) (λ u. forward binary64 (a .n) F u (a .n)) (length-forward binary64 (a .n) F l (a .n) (length-part (a .w .now) (a .x) (a .n))))
 
-same-length-2 : tie.Need-same-length-2
-same-length-2 c = search needs
-
 returns-2 : tie.Need-returns-2
-returns-2 c = c .before .before .forward-by-rows .ensures
+returns-2 c = let forward-by-rows : tie.After-forward-by-rows = search in forward-by-rows .forward-by-rows .ensures
 
 pub forward-rows-spec : {M : Type 1} → statement M
 forward-rows-spec =
@@ -48,7 +42,7 @@ forward-rows-spec =
     (tie.spec
     forward-column-requires
     forward-by-rows-requires
-    same-length
+    (λ c. search needs)
     returns
-    same-length-2
+    (λ c. search needs)
     returns-2)

@@ -21,18 +21,9 @@ Inv-loop w₀ f x n k lo hi v i₀ w i =
 abbrev μ-loop : tie.MeasureT-loop
 μ-loop w₀ f x n k lo hi v i₀ w i = hi - i
 
-add-v : tie.Need-add-v Inv-loop μ-loop
-add-v c = search needs
-
-mul-v : tie.Need-mul-v Inv-loop μ-loop
-mul-v c = search needs
-
-slice-read-v : tie.Need-slice-read-v Inv-loop μ-loop
-slice-read-v c = search needs
-
 loop-holds : tie.Need-loop-holds Inv-loop μ-loop
 loop-holds c =
-    let s = c .before .before in
+    let s : tie.Start Inv-loop μ-loop = search in
     let a = s .args in
     let l = part (a .w .now) (a .x) (a .n) in (
       omega arith,
@@ -41,53 +32,25 @@ loop-holds c =
       sym (put-part (a .w .now) (a .x) (a .n) (s .pre .1 .1)) ∙ ap (put (a .w .now) (a .x)) (patch-none nan (a .lo) (lowered binary64 (a .n) (part (a .w .now) (a .f) (a .n * a .n)) (a .k) l) l),
     )
 
-add-w : tie.Need-add-w Inv-loop μ-loop
-add-w c = search needs
-
-mul-w : tie.Need-mul-w Inv-loop μ-loop
-mul-w c = search needs
-
-slice-read-w : tie.Need-slice-read-w Inv-loop μ-loop
-slice-read-w c = search needs
-
-factor-at-requires : tie.Need-factor-at-requires Inv-loop μ-loop
-factor-at-requires c κs = search needs
-
-add-w-2 : tie.Need-add-w-2 Inv-loop μ-loop
-add-w-2 c = search needs
-
-mul-w-2 : tie.Need-mul-w-2 Inv-loop μ-loop
-mul-w-2 c = search needs
-
-slice-write-w : tie.Need-slice-write-w Inv-loop μ-loop
-slice-write-w c = search needs
-
-add-i : tie.Need-add-i Inv-loop μ-loop
-add-i c = search needs
-
-loop-less : tie.Need-loop-less Inv-loop μ-loop
-loop-less c = search needs
-
 loop-again : tie.Need-loop-again Inv-loop μ-loop
 loop-again c =
-    let turn = c .before .before .before in
-    let l = turn .before .loop in
-    let s = turn .before .before .before .before in
+    let (factor-at, turn, head, s) :
+    tie.After-factor-at Inv-loop μ-loop × tie.In-loop Inv-loop μ-loop × tie.At-loop Inv-loop μ-loop × tie.Start Inv-loop μ-loop = search in
+    let l = head .loop in
     let a = s .args in (
       omega (arith, l .inv .0),
       omega (arith, turn .loop-test .taken),
       simp length-set (l .inv .2),
-      lower-column-turn binary64 (a .f) (a .x) (a .n) (a .k) (a .lo) (l .i) (a .w .now) (l .w) (c .factor-at .result) _ (s .pre .0 .0) (l .inv .0)
-          (omega (arith, turn .loop-test .taken, s .pre .0 .2)) (s .pre .1 .1) (s .pre .1 .2) (l .inv .3) (c .factor-at .ensures) refl,
+      lower-column-turn binary64 (a .f) (a .x) (a .n) (a .k) (a .lo) (l .i) (a .w .now) (l .w) (factor-at .factor-at .result) _ (s .pre .0 .0) (l .inv .0)
+          (omega (arith, turn .loop-test .taken, s .pre .0 .2)) (s .pre .1 .1) (s .pre .1 .2) (l .inv .3) (factor-at .factor-at .ensures) refl,
     )
-
-same-length : tie.Need-same-length Inv-loop μ-loop
-same-length c = search needs
 
 returns : tie.Need-returns Inv-loop μ-loop
 returns c =
-    let e : c .before .loop .i ≡ c .before .before .before .before .args .hi = omega arith in
-    rw e at (c .before .loop .inv .3)
+    let head : tie.At-loop Inv-loop μ-loop = search in
+    let s : tie.Start Inv-loop μ-loop = search in
+    let e : head .loop .i ≡ s .args .hi = omega arith in
+    rw e at (head .loop .inv .3)
 
 pub lower-column-spec : {M : Type 1} → statement M
 lower-column-spec =
@@ -95,19 +58,19 @@ lower-column-spec =
     (tie.spec
     Inv-loop
     μ-loop
-    add-v
-    mul-v
-    slice-read-v
+    (λ c. search needs)
+    (λ c. search needs)
+    (λ c. search needs)
     loop-holds
-    add-w
-    mul-w
-    slice-read-w
-    factor-at-requires
-    add-w-2
-    mul-w-2
-    slice-write-w
-    add-i
-    loop-less
+    (λ c. search needs)
+    (λ c. search needs)
+    (λ c. search needs)
+    (λ c κs. search needs)
+    (λ c. search needs)
+    (λ c. search needs)
+    (λ c. search needs)
+    (λ c. search needs)
+    (λ c. search needs)
     loop-again
-    same-length
+    (λ c. search needs)
     returns)

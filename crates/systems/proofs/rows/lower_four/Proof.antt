@@ -25,13 +25,16 @@ abbrev μ-loop : tie.MeasureT-loop
 μ-loop w q x y j k m z s0₀ s1₀ s2₀ s3₀ r₀ i₀ s0 s1 s2 s3 r i = k - i
 
 -- in a turn the places read of the columns lie within the matrix
-inside : (c : tie.In-loop Inv-loop μ-loop) → c .before .loop .r + 4 ≤ c .before .before .before .before .before .before .args .x + c .before .before .before .before .before .before .args .k * c .before .before .before .before .before .before .args .m
-inside c = omega (arith, row-end (c .before .loop .i) (c .before .before .before .before .before .before .args .k) (c .before .before .before .before .before .before .args .m) (c .loop-test .taken))
+inside : (c : tie.In-loop Inv-loop μ-loop) →
+    let s : tie.Start Inv-loop μ-loop = search in
+    c .before .loop .r + 4 ≤ s .args .x + s .args .k * s .args .m
+inside c = let s : tie.Start Inv-loop μ-loop = search in omega (arith, row-end (c .before .loop .i) (s .args .k) (s .args .m) (c .loop-test .taken))
 
 -- the answers that take more than arithmetic and `inside`; the others stand below, in the order of `tie.spec`
 loop-holds : tie.Need-loop-holds Inv-loop μ-loop
 loop-holds c =
-    let a = c .before .before .before .before .args in (
+    let s : tie.Start Inv-loop μ-loop = search in
+    let a = s .args in (
       omega arith,
       omega (arith, zero-mul (a .m)),
       lower-none binary64 (a .m) (a .w .now) (a .q) (a .x) (a .y) (a .j + 0) _ (omega arith),
@@ -42,8 +45,10 @@ loop-holds c =
 
 loop-again : tie.Need-loop-again Inv-loop μ-loop
 loop-again c =
-    let l = c .before .before .before .before .before .before .loop in
-    let a = c .before .before .before .before .before .before .before .before .before .before .before .args in
+    let head : tie.At-loop Inv-loop μ-loop = search in
+    let s : tie.Start Inv-loop μ-loop = search in
+    let l = head .loop in
+    let a = s .args in
     let h = more-rows (l .i) (a .m) in (
       omega arith,
       omega arith,
@@ -55,8 +60,10 @@ loop-again c =
 
 returns : tie.Need-returns Inv-loop μ-loop
 returns c =
-    let l = c .before .loop in
-    let a = c .before .before .before .before .before .before .args in
+    let head : tie.At-loop Inv-loop μ-loop = search in
+    let s : tie.Start Inv-loop μ-loop = search in
+    let l = head .loop in
+    let a = s .args in
     let e : l .i ≡ a .k = omega arith in
     let d0 = lower-done binary64 _ _ (a .m) (a .w .now) (a .q) (a .x) (a .y) (a .j + 0) _ e (l .inv .2) in
     let d1 = lower-done binary64 _ _ (a .m) (a .w .now) (a .q) (a .x) (a .y) (a .j + 1) _ e (l .inv .3) in
@@ -87,18 +94,18 @@ lower-four-spec =
     (λ c. omega arith)
     (λ c. omega arith)
     (λ c. omega arith)
-    (λ c. omega (arith, inside (c .before)))
-    (λ c. omega (arith, inside (c .before .before)))
-    (λ c. omega (arith, inside (c .before .before)))
-    (λ c. omega (arith, inside (c .before .before)))
-    (λ c. omega (arith, inside (c .before .before .before)))
-    (λ c. omega (arith, inside (c .before .before .before)))
-    (λ c. omega (arith, inside (c .before .before .before)))
-    (λ c. omega (arith, inside (c .before .before .before .before)))
-    (λ c. omega (arith, inside (c .before .before .before .before)))
-    (λ c. omega (arith, inside (c .before .before .before .before)))
-    (λ c. omega (arith, inside (c .before .before .before .before .before)))
-    (λ c. omega (arith, inside (c .before .before .before .before .before)))
+    (λ c. let turn : tie.In-loop Inv-loop μ-loop = search in omega (arith, inside turn))
+    (λ c. let turn : tie.In-loop Inv-loop μ-loop = search in omega (arith, inside turn))
+    (λ c. let turn : tie.In-loop Inv-loop μ-loop = search in omega (arith, inside turn))
+    (λ c. let turn : tie.In-loop Inv-loop μ-loop = search in omega (arith, inside turn))
+    (λ c. let turn : tie.In-loop Inv-loop μ-loop = search in omega (arith, inside turn))
+    (λ c. let turn : tie.In-loop Inv-loop μ-loop = search in omega (arith, inside turn))
+    (λ c. let turn : tie.In-loop Inv-loop μ-loop = search in omega (arith, inside turn))
+    (λ c. let turn : tie.In-loop Inv-loop μ-loop = search in omega (arith, inside turn))
+    (λ c. let turn : tie.In-loop Inv-loop μ-loop = search in omega (arith, inside turn))
+    (λ c. let turn : tie.In-loop Inv-loop μ-loop = search in omega (arith, inside turn))
+    (λ c. let turn : tie.In-loop Inv-loop μ-loop = search in omega (arith, inside turn))
+    (λ c. let turn : tie.In-loop Inv-loop μ-loop = search in omega (arith, inside turn))
     (λ c. omega arith)
     (λ c. omega arith)
     loop-again

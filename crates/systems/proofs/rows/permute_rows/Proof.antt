@@ -21,48 +21,33 @@ abbrev μ-loop : tie.MeasureT-loop
 loop-holds : tie.Need-loop-holds Inv-loop μ-loop
 unfolding permuted
 loop-holds c =
-    let s = c .before .before in
+    let s : tie.Start Inv-loop μ-loop = search in
     let a = s .args in
     (omega arith, refl, each-none (a .w .now) (a .x) (a .n) (a .m) (λ l. permuted (a .n) (a .pivots .now) l 0) (s .pre .0) (λ l h. refl))
 
-mul-exchange-rows : tie.Need-mul-exchange-rows Inv-loop μ-loop
-mul-exchange-rows c = search needs
-
-shared-slice-read-exchange-rows : tie.Need-shared-slice-read-exchange-rows Inv-loop μ-loop
-shared-slice-read-exchange-rows c = search needs
-
 exchange-rows-requires : tie.Need-exchange-rows-requires Inv-loop μ-loop
 exchange-rows-requires c κs =
-    let turn = c .before .before in
-    let l = turn .before .loop in
-    let s = turn .before .before .before .before in
+    let (turn, head, s) : tie.In-loop Inv-loop μ-loop × tie.At-loop Inv-loop μ-loop × tie.Start Inv-loop μ-loop = search in
+    let l = head .loop in
     (turn .loop-test .taken, s .pre .2 (l .k) (turn .loop-test .taken), omega (arith, s .pre .0, l .inv .1))
-
-add-k : tie.Need-add-k Inv-loop μ-loop
-add-k c = search needs
-
-loop-less : tie.Need-loop-less Inv-loop μ-loop
-loop-less c = search needs
 
 loop-again : tie.Need-loop-again Inv-loop μ-loop
 loop-again c =
-    let call = c .before .before in
-    let turn = call .before .before .before in
-    let l = turn .before .loop in
-    let s = turn .before .before .before .before in
+    let (call, turn, head, s) :
+    tie.After-exchange-rows Inv-loop μ-loop × tie.In-loop Inv-loop μ-loop × tie.At-loop Inv-loop μ-loop × tie.Start Inv-loop μ-loop = search in
+    let l = head .loop in
     let a = s .args in (
       omega (arith, turn .loop-test .taken),
       call .exchange-rows .kept .0 ∙ l .inv .1,
       permute-rows-turn (a .x) (a .n) (a .m) (a .w .now) (l .w) (call .exchange-rows .last .0) (s .pre .0) (a .pivots .now) (l .k) (l .inv .2) (call .exchange-rows .ensures),
     )
 
-same-length : tie.Need-same-length Inv-loop μ-loop
-same-length c = search needs
-
 returns : tie.Need-returns Inv-loop μ-loop
 returns c =
-    let e : c .before .loop .k ≡ c .before .before .before .before .args .n = omega arith in
-    rw e at (c .before .loop .inv .2)
+    let head : tie.At-loop Inv-loop μ-loop = search in
+    let s : tie.Start Inv-loop μ-loop = search in
+    let e : head .loop .k ≡ s .args .n = omega arith in
+    rw e at (head .loop .inv .2)
 
 pub permute-rows-spec : {M : Type 1} → statement M
 permute-rows-spec =
@@ -71,11 +56,11 @@ permute-rows-spec =
     Inv-loop
     μ-loop
     loop-holds
-    mul-exchange-rows
-    shared-slice-read-exchange-rows
+    (λ c. search needs)
+    (λ c. search needs)
     exchange-rows-requires
-    add-k
-    loop-less
+    (λ c. search needs)
+    (λ c. search needs)
     loop-again
-    same-length
+    (λ c. search needs)
     returns)

@@ -23,9 +23,12 @@ abbrev μ-loop : tie.MeasureT-loop
 μ-loop w g y j k m z s0₀ s1₀ s2₀ s3₀ p₀ r₀ s0 s1 s2 s3 p r = r
 
 -- in a turn the places read of the columns lie within the matrix
-inside : (c : tie.In-loop Inv-loop μ-loop) → c .before .loop .p + 4 ≤ length (c .before .before .before .before .before .before .args .w .now)
+inside : (c : tie.In-loop Inv-loop μ-loop) →
+    let s : tie.Start Inv-loop μ-loop = search in
+    c .before .loop .p + 4 ≤ length (s .args .w .now)
 inside c =
-    let a = c .before .before .before .before .before .before .args in
+    let s : tie.Start Inv-loop μ-loop = search in
+    let a = s .args in
     let r = c .before .loop .r in
     let h : r < a .k + 1 = omega arith in
     omega (arith, row-end r (a .k + 1) (a .m) h, more-rows (a .k) (a .m))
@@ -33,7 +36,8 @@ inside c =
 -- the answers that take more than arithmetic and `inside`; the others stand below, in the order of `tie.spec`
 loop-holds : tie.Need-loop-holds Inv-loop μ-loop
 loop-holds c =
-    let a = c .before .before .before .before .args in (
+    let s : tie.Start Inv-loop μ-loop = search in
+    let a = s .args in (
       omega arith,
       omega arith,
       upper-none binary64 _ (a .m) (a .w .now) (a .g) (a .y) (a .j + 0) _ (omega arith),
@@ -44,21 +48,24 @@ loop-holds c =
 
 loop-again : tie.Need-loop-again Inv-loop μ-loop
 loop-again c =
-    let l = c .before .before .before .before .before .before .loop in
-    let a = c .before .before .before .before .before .before .before .before .before .before .before .args in
-    let h = row-down (l .r) (a .m) (c .before .before .before .before .before .loop-test .taken) in (
+    let (turn, head, s) : tie.In-loop Inv-loop μ-loop × tie.At-loop Inv-loop μ-loop × tie.Start Inv-loop μ-loop = search in
+    let l = head .loop in
+    let a = s .args in
+    let h = row-down (l .r) (a .m) (turn .loop-test .taken) in (
       omega arith,
       omega arith,
-      upper-turn binary64 _ (a .k) (a .m) (a .w .now) (a .g) (a .y) (a .j + 0) _ _ (c .before .before .before .before .before .loop-test .taken) (l .inv .0) (l .inv .2) (omega arith),
-      upper-turn binary64 _ (a .k) (a .m) (a .w .now) (a .g) (a .y) (a .j + 1) _ _ (c .before .before .before .before .before .loop-test .taken) (l .inv .0) (l .inv .3) (omega arith),
-      upper-turn binary64 _ (a .k) (a .m) (a .w .now) (a .g) (a .y) (a .j + 2) _ _ (c .before .before .before .before .before .loop-test .taken) (l .inv .0) (l .inv .4) (omega arith),
-      upper-turn binary64 _ (a .k) (a .m) (a .w .now) (a .g) (a .y) (a .j + 3) _ _ (c .before .before .before .before .before .loop-test .taken) (l .inv .0) (l .inv .5) (omega arith),
+      upper-turn binary64 _ (a .k) (a .m) (a .w .now) (a .g) (a .y) (a .j + 0) _ _ (turn .loop-test .taken) (l .inv .0) (l .inv .2) (omega arith),
+      upper-turn binary64 _ (a .k) (a .m) (a .w .now) (a .g) (a .y) (a .j + 1) _ _ (turn .loop-test .taken) (l .inv .0) (l .inv .3) (omega arith),
+      upper-turn binary64 _ (a .k) (a .m) (a .w .now) (a .g) (a .y) (a .j + 2) _ _ (turn .loop-test .taken) (l .inv .0) (l .inv .4) (omega arith),
+      upper-turn binary64 _ (a .k) (a .m) (a .w .now) (a .g) (a .y) (a .j + 3) _ _ (turn .loop-test .taken) (l .inv .0) (l .inv .5) (omega arith),
     )
 
 returns : tie.Need-returns Inv-loop μ-loop
 returns c =
-    let l = c .before .before .loop in
-    let a = c .before .before .before .before .before .before .before .args in
+    let head : tie.At-loop Inv-loop μ-loop = search in
+    let s : tie.Start Inv-loop μ-loop = search in
+    let l = head .loop in
+    let a = s .args in
     let e : l .r ≡ 0 = omega arith in
     let d0 = upper-done binary64 _ _ (a .m) (a .w .now) (a .g) (a .y) (a .j + 0) _ e (l .inv .2) in
     let d1 = upper-done binary64 _ _ (a .m) (a .w .now) (a .g) (a .y) (a .j + 1) _ e (l .inv .3) in
@@ -90,18 +97,18 @@ upper-four-spec =
     (λ c. omega arith)
     (λ c. omega arith)
     (λ c. omega arith)
-    (λ c. omega (arith, inside (c .before)))
-    (λ c. omega (arith, inside (c .before .before)))
-    (λ c. omega (arith, inside (c .before .before)))
-    (λ c. omega (arith, inside (c .before .before)))
-    (λ c. omega (arith, inside (c .before .before .before)))
-    (λ c. omega (arith, inside (c .before .before .before)))
-    (λ c. omega (arith, inside (c .before .before .before)))
-    (λ c. omega (arith, inside (c .before .before .before .before)))
-    (λ c. omega (arith, inside (c .before .before .before .before)))
-    (λ c. omega (arith, inside (c .before .before .before .before)))
-    (λ c. omega (arith, inside (c .before .before .before .before .before)))
-    (λ c. omega (arith, row-down (c .before .before .before .before .before .before .loop .r) (c .before .before .before .before .before .before .before .before .before .before .before .args .m) (c .before .before .before .before .before .loop-test .taken)))
+    (λ c. let turn : tie.In-loop Inv-loop μ-loop = search in omega (arith, inside turn))
+    (λ c. let turn : tie.In-loop Inv-loop μ-loop = search in omega (arith, inside turn))
+    (λ c. let turn : tie.In-loop Inv-loop μ-loop = search in omega (arith, inside turn))
+    (λ c. let turn : tie.In-loop Inv-loop μ-loop = search in omega (arith, inside turn))
+    (λ c. let turn : tie.In-loop Inv-loop μ-loop = search in omega (arith, inside turn))
+    (λ c. let turn : tie.In-loop Inv-loop μ-loop = search in omega (arith, inside turn))
+    (λ c. let turn : tie.In-loop Inv-loop μ-loop = search in omega (arith, inside turn))
+    (λ c. let turn : tie.In-loop Inv-loop μ-loop = search in omega (arith, inside turn))
+    (λ c. let turn : tie.In-loop Inv-loop μ-loop = search in omega (arith, inside turn))
+    (λ c. let turn : tie.In-loop Inv-loop μ-loop = search in omega (arith, inside turn))
+    (λ c. let turn : tie.In-loop Inv-loop μ-loop = search in omega (arith, inside turn))
+    (λ c. let (turn, head, s) : tie.In-loop Inv-loop μ-loop × tie.At-loop Inv-loop μ-loop × tie.Start Inv-loop μ-loop = search in omega (arith, row-down (head .loop .r) (s .args .m) (turn .loop-test .taken)))
     (λ c. omega arith)
     (λ c. omega arith)
     loop-again

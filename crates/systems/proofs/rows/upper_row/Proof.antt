@@ -20,34 +20,24 @@ abbrev μ-loop : tie.MeasureT-loop
 loop-holds : tie.Need-loop-holds Inv-loop μ-loop
 loop-holds c = (omega arith, refl, put-none _ _ _)
 
-upper-next-requires : tie.Need-upper-next-requires Inv-loop μ-loop
-upper-next-requires c κs = omega arith
-
-add-j : tie.Need-add-j Inv-loop μ-loop
-add-j c = omega arith
-
-loop-less : tie.Need-loop-less Inv-loop μ-loop
-loop-less c = omega arith
-
 loop-again : tie.Need-loop-again Inv-loop μ-loop
 loop-again c =
-    let next = c .before .before .upper-next in
-    let at-loop = c .before .before .before .before .before in
+    let (upper-next, at-loop, s) : tie.After-upper-next Inv-loop μ-loop × tie.At-loop Inv-loop μ-loop × tie.Start Inv-loop μ-loop = search in
+    let next = upper-next .upper-next in
     let l = at-loop .loop in
-    let a = at-loop .before .before .args in
-    let pre = at-loop .before .before .pre in (
+    let a = s .args in
+    let pre = s .pre in (
       next .ensures .1,
       next .kept .0 ∙ l .inv .1,
       rw (next .ensures .2, l .inv .2) (upper-more binary64 (a .k) (a .m) (a .w .now) (a .y) (l .j) (next .result) (next .ensures .1) (a .g) (pre .2)),
     )
 
-same-length : tie.Need-same-length Inv-loop μ-loop
-same-length c = omega arith
-
 returns : tie.Need-returns Inv-loop μ-loop
 returns c =
-    let e : c .before .loop .j ≡ c .before .before .before .args .m = omega arith in
-    rw e at (c .before .loop .inv .2)
+    let head : tie.At-loop Inv-loop μ-loop = search in
+    let s : tie.Start Inv-loop μ-loop = search in
+    let e : head .loop .j ≡ s .args .m = omega arith in
+    rw e at (head .loop .inv .2)
 
 pub upper-row-spec : {M : Type 1} → statement M
 upper-row-spec =
@@ -56,9 +46,9 @@ upper-row-spec =
     Inv-loop
     μ-loop
     loop-holds
-    upper-next-requires
-    add-j
-    loop-less
+    (λ c κs. omega arith)
+    (λ c. omega arith)
+    (λ c. omega arith)
     loop-again
-    same-length
+    (λ c. omega arith)
     returns)

@@ -8,17 +8,9 @@ use borrow.Author.Needs.{needs}
 use Rattle.systems.proofs.workspace.divide.Statement.{statement}
 use Rattle.systems.proofs.workspace.divide.Tie as tie
 
-factor-in-requires : tie.Need-factor-in-requires
-factor-in-requires c κs = search needs
-
-enum-told : tie.Need-enum-told
-enum-told c = search needs
-
 solve-in-requires : tie.Need-solve-in-requires
 solve-in-requires c κs =
-    let told = c .before .before in
-    let call = told .before .before .before .before .before .before in
-    let s = call .before .before .before .before .before in
+    let (told, call, s) : tie.After-enum-told × tie.After-factor-in × tie.Start = search in
     let a = s .args in
     let d = call .factor-in in (
       omega (arith, s .pre .1, d .kept .0),
@@ -28,21 +20,9 @@ solve-in-requires c κs =
       in-rows binary64 (a .n) (a .f) (a .w .now) (a .pivots .now) (d .last .0) (d .last .1 .1 .1 .0) (d .result) (d .ensures) (told .enum-told .given .1) (s .pre .4),
     )
 
-enum-known-r : tie.Need-enum-known-r
-enum-known-r c = search needs
-
-same-length : tie.Need-same-length
-same-length c = search needs
-
-same-length-2 : tie.Need-same-length-2
-same-length-2 c = search needs
-
 returns : tie.Need-returns
 returns c =
-    let solve = c .before .before in
-    let told = solve .before .before .before in
-    let call = told .before .before .before .before .before .before in
-    let s = call .before .before .before .before .before in
+    let (solve, told, call, s) : tie.After-solve-in × tie.After-enum-told × tie.After-factor-in × tie.Start = search in
     let a = s .args in
     let d = call .factor-in in
     let all = told .enum-told .given .1 in (
@@ -51,17 +31,9 @@ returns c =
           all (s .pre .4) (s .pre .1) (s .pre .3) (solve .solve-in .ensures),
     )
 
-same-length-3 : tie.Need-same-length-3
-same-length-3 c = search needs
-
-same-length-4 : tie.Need-same-length-4
-same-length-4 c = search needs
-
 returns-2 : tie.Need-returns-2
 returns-2 c =
-    let told = c .before in
-    let call = told .before .before .before .before .before .before in
-    let s = call .before .before .before .before .before in
+    let (told, call, s) : tie.After-r × tie.After-factor-in × tie.Start = search in
     let a = s .args in
     let d = call .factor-in in
     let e = told .r .given .1 in (
@@ -73,13 +45,13 @@ pub divide-spec : {M : Type 1} → statement M
 divide-spec =
     tie.close
     (tie.spec
-    factor-in-requires
-    enum-told
+    (λ c κs. search needs)
+    (λ c. search needs)
     solve-in-requires
-    enum-known-r
-    same-length
-    same-length-2
+    (λ c. search needs)
+    (λ c. search needs)
+    (λ c. search needs)
     returns
-    same-length-3
-    same-length-4
+    (λ c. search needs)
+    (λ c. search needs)
     returns-2)

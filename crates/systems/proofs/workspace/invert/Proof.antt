@@ -18,19 +18,10 @@ use borrow.Author.Needs.{needs}
 use Rattle.systems.proofs.workspace.invert.Statement.{statement}
 use Rattle.systems.proofs.workspace.invert.Tie as tie
 
-identity-requires : tie.Need-identity-requires
-identity-requires c κs = search needs
-
-mul-divide : tie.Need-mul-divide
-mul-divide c = search needs
-
-mul-divide-2 : tie.Need-mul-divide-2
-mul-divide-2 c = search needs
-
 divide-requires : tie.Need-divide-requires
 divide-requires c κs =
-    let call = c .before .before .before .before in
-    let s = call .before .before .before .before in
+    let call : tie.After-identity = search in
+    let s : tie.Start = search in
     let few = square-le (s .args .n) (s .pre .0 .order) in
     let long = call .identity .kept .0 in (
       omega (arith, s .pre .0 .order),
@@ -40,18 +31,10 @@ divide-requires c κs =
       s .pre .1 .3,
     )
 
-same-length : tie.Need-same-length
-same-length c = search needs
-
-same-length-2 : tie.Need-same-length-2
-same-length-2 c = search needs
-
 returns : tie.Need-returns
 unfolding slot
 returns c =
-    let call = c .before .before .before .before in
-    let first = call .before .before .before .before .before in
-    let s = first .before .before .before .before in
+    let (call, first, s) : tie.After-divide × tie.After-identity × tie.Start = search in
     let a = s .args in
     let few = square-le (a .n) (s .pre .0 .order) in
     let e = first .identity .ensures in
@@ -64,10 +47,10 @@ pub invert-spec : {M : Type 1} → statement M
 invert-spec =
     tie.close
     (tie.spec
-    identity-requires
-    mul-divide
-    mul-divide-2
+    (λ c κs. search needs)
+    (λ c. search needs)
+    (λ c. search needs)
     divide-requires
-    same-length
-    same-length-2
+    (λ c. search needs)
+    (λ c. search needs)
     returns)
