@@ -6,25 +6,25 @@ use mathlib.Core.List.{List}
 use lib.Dec.{ltb}
 use lib.ListN.{length}
 use lib.Ieee.{Float, Format}
-use Rattle.arithmetic.specs.Matrix.{patch, part, put}
-use Rattle.arithmetic.specs.Workspace.{store, cleared, Only}
-use Rattle.questions.specs.Result.{Result, outcome, exit, workspace}
-use Rattle.questions.specs.Answers.{numbered, reported, found}
-use Rattle.questions.specs.Questions.{asked, ofCompute}
-use Rattle.questions.specs.declared.answer.Outcome.{Outcome}
-use Rattle.questions.specs.declared.answer.Question.{Question}
-use Rattle.questions.specs.declared.answer.Question.the-variants.{Passed, No}
-use Rattle.questions.specs.declared.answer.Refusal.{Refusal}
-use Rattle.arithmetic.proofs.PatchLaws.{patch-all}
-use Rattle.arithmetic.proofs.PartLaws.{part-put, put-put}
-use Rattle.arithmetic.proofs.Slots.{only-run, cleared-only}
-use Rattle.questions.proofs.AnswerLaws.{answer-passed, outcome-no, exit-no, workspace-no}
-use Rattle.factoring.specs.Lu.{luAt, luPivot, luOutcome, luFactors, luPivots, columns, LuDoneIn}
-use Rattle.factoring.specs.Solve.{standIn}
+use Rattle.arithmetic_matrices.specs.Matrix.{patch, part, put}
+use Rattle.arithmetic_matrices.specs.Workspace.{store, cleared, Only}
+use Rattle.arithmetic_questions.specs.Result.{Result, outcome, exit, workspace}
+use Rattle.arithmetic_questions.specs.Answers.{numbered, reported, found}
+use Rattle.arithmetic_questions.specs.Questions.{asked, ofCompute}
+use Rattle.arithmetic_questions.specs.declared.answer.Outcome.{Outcome}
+use Rattle.arithmetic_questions.specs.declared.answer.Question.{Question}
+use Rattle.arithmetic_questions.specs.declared.answer.Question.the-variants.{Passed, No}
+use Rattle.arithmetic_questions.specs.declared.answer.Refusal.{Refusal}
+use Rattle.arithmetic_matrices.proofs.PatchLaws.{patch-all}
+use Rattle.arithmetic_matrices.proofs.PartLaws.{part-put, put-put}
+use Rattle.arithmetic_matrices.proofs.Slots.{only-run, cleared-only}
+use Rattle.arithmetic_questions.proofs.AnswerLaws.{answer-passed, outcome-no, exit-no, workspace-no}
+use Rattle.lu_factoring.specs.Lu.{luAt, luPivot, luOutcome, luFactors, luPivots, columns, LuDoneIn}
+use Rattle.lu_factoring.specs.Solve.{standIn}
 use Rattle.lu.specs.Calls.{Factorisation, factorised, compute, computeCall, luReport, FactoredCopy, Computing, Computed}
-use Rattle.factoring.specs.declared.LuOutcome.{LuOutcome}
-use Rattle.factoring.specs.declared.LuOutcome.the-variants.{Factored, Singular}
-use Rattle.factoring.proofs.LuLaws.{length-luAt}
+use Rattle.lu_factoring.specs.declared.LuOutcome.{LuOutcome}
+use Rattle.lu_factoring.specs.declared.LuOutcome.the-variants.{Factored, Singular}
+use Rattle.lu_factoring.proofs.LuLaws.{length-luAt}
 
 module _ (f : Format) (n : ℕ) (a w : List Float) (size : length a ≡ n * n) (room : n * n ≤ length w) where
   -- a copy stands where it was stored, and what replaces it replaces what stood there before

@@ -11,12 +11,12 @@ use lib.ListN.{length, getD, drop, drop-of-length-le}
 use lib.Seq.{drop-cons}
 use borrow.Author.Tests.{leb-true, ltb-true, eqb-true}
 use lib.Ieee.{Float}
-use Rattle.questions.specs.Result.{refused, _>>=_, passes, ask, firstNo}
-use Rattle.questions.specs.Questions.{pivotsFrom, pivotsNamed, directed, numberQuestions, asked, companionFits, atMost, limited, exactly, hasCompanion, hasPivots, outputLength, lengths, roomy, shapeQuestions, ofCompute, ofSolve, ofDeterminant}
-use Rattle.questions.specs.Answers.{found}
-use Rattle.questions.specs.declared.answer.Question.{Question}
-use Rattle.questions.specs.declared.answer.Question.the-variants.{Passed}
-use Rattle.questions.proofs.QuestionLaws.{Found, told, Yes, Each, all-yes, ask-yes, at-most-yes, exactly-yes}
+use Rattle.arithmetic_questions.specs.Result.{refused, _>>=_, passes, ask, firstNo}
+use Rattle.arithmetic_questions.specs.Questions.{pivotsFrom, pivotsNamed, directed, numberQuestions, asked, companionFits, atMost, limited, exactly, hasCompanion, hasPivots, outputLength, lengths, roomy, shapeQuestions, ofCompute, ofSolve, ofDeterminant}
+use Rattle.arithmetic_questions.specs.Answers.{found}
+use Rattle.arithmetic_questions.specs.declared.answer.Question.{Question}
+use Rattle.arithmetic_questions.specs.declared.answer.Question.the-variants.{Passed}
+use Rattle.arithmetic_questions.proofs.QuestionLaws.{Found, told, Yes, Each, all-yes, ask-yes, at-most-yes, exactly-yes}
 use Rattle.lu.specs.Calls.{computeCall, solveCall, determinantCall}
 
 -- ---- 9: the pivots, one at a time

@@ -4,17 +4,17 @@ use mathlib.Core.Path.{_≡_}
 use mathlib.Core.List.{List, [], _∷_}
 use lib.Dec.{ltb}
 use lib.Ieee.{Float, Format}
-use Rattle.floats.specs.Float.{+zero}
-use Rattle.questions.specs.Result.{Result, refused, done, exit, outcome as outcomeOf, workspace as workspaceOf}
-use Rattle.questions.specs.Answers.{reported}
-use Rattle.questions.specs.declared.answer.Outcome.{Outcome}
-use Rattle.arithmetic.specs.Workspace.{Only}
-use Rattle.questions.specs.Questions.{Call, answer, ofCompute, ofSolve, ofDeterminant}
-use Rattle.arithmetic.specs.Matrix.{patch, put}
-use Rattle.factoring.specs.Lu.{luAt, luPivot, luOutcome, luFactors, luPivots, columns}
-use Rattle.factoring.specs.Solve.{standIn, solvedMatrix, determinantOf}
-use Rattle.factoring.specs.declared.LuOutcome.{LuOutcome}
-use Rattle.factoring.specs.declared.LuOutcome.the-variants.{Factored, Singular}
+use Rattle.arithmetic_floats.specs.Float.{+zero}
+use Rattle.arithmetic_questions.specs.Result.{Result, refused, done, exit, outcome as outcomeOf, workspace as workspaceOf}
+use Rattle.arithmetic_questions.specs.Answers.{reported}
+use Rattle.arithmetic_questions.specs.declared.answer.Outcome.{Outcome}
+use Rattle.arithmetic_matrices.specs.Workspace.{Only}
+use Rattle.arithmetic_questions.specs.Questions.{Call, answer, ofCompute, ofSolve, ofDeterminant}
+use Rattle.arithmetic_matrices.specs.Matrix.{patch, put}
+use Rattle.lu_factoring.specs.Lu.{luAt, luPivot, luOutcome, luFactors, luPivots, columns}
+use Rattle.lu_factoring.specs.Solve.{standIn, solvedMatrix, determinantOf}
+use Rattle.lu_factoring.specs.declared.LuOutcome.{LuOutcome}
+use Rattle.lu_factoring.specs.declared.LuOutcome.the-variants.{Factored, Singular}
 
 -- the outputs of `compute`
 pub record Factorisation : Type 0 where

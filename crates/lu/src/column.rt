@@ -2,10 +2,10 @@
 ghost use mathlib.Core.Path.{_≡_};
 ghost use Prim.Native.Nat.{_*_, _<_};
 ghost use lib.ListN.{length};
-ghost use Rattle.arithmetic.specs.Matrix.{column};
-ghost use Rattle.factoring.specs.Solve.{withColumn};
-use arithmetic::matrix::entry;
-use arithmetic::matrix::set_entry;
+ghost use Rattle.arithmetic_matrices.specs.Matrix.{column};
+ghost use Rattle.lu_factoring.specs.Solve.{withColumn};
+use arithmetic_matrices::matrix::entry;
+use arithmetic_matrices::matrix::set_entry;
 
 // Column j of a matrix of n rows and m columns is copied to x.
 pub fn load_column(b: &[f64], n: usize, m: usize, j: usize, x: &mut [f64])

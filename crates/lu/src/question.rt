@@ -4,18 +4,18 @@ ghost use mathlib.Core.Bool.{_&&_};
 ghost use mathlib.Core.List.{[], _∷_};
 ghost use Prim.Native.Nat.{_*_};
 ghost use lib.Dec.{eqb, ltb, leb};
-ghost use Rattle.questions.specs.Result.{firstNo, ask as askOf};
-ghost use Rattle.questions.specs.Questions.{atMost, exactly, pivotsFrom, asked, ofCompute, ofSolve, ofDeterminant};
-ghost use Rattle.questions.specs.Answers.{found};
+ghost use Rattle.arithmetic_questions.specs.Result.{firstNo, ask as askOf};
+ghost use Rattle.arithmetic_questions.specs.Questions.{atMost, exactly, pivotsFrom, asked, ofCompute, ofSolve, ofDeterminant};
+ghost use Rattle.arithmetic_questions.specs.Answers.{found};
 ghost use Rattle.lu.specs.Calls.{computeCall, solveCall, determinantCall};
-use questions::answer::Question;
-use questions::answer::Refusal;
-use questions::question::ask;
-use questions::question::ask_at_most;
-use questions::question::ask_length;
-use questions::question::ask_room;
-use questions::question::ask_square;
-use questions::question::first_no;
+use arithmetic_questions::answer::Question;
+use arithmetic_questions::answer::Refusal;
+use arithmetic_questions::question::ask;
+use arithmetic_questions::question::ask_at_most;
+use arithmetic_questions::question::ask_length;
+use arithmetic_questions::question::ask_room;
+use arithmetic_questions::question::ask_square;
+use arithmetic_questions::question::first_no;
 
 // Is p, which is pivot k, a row from k to n - 1?
 pub fn names_row(k: usize, p: usize, n: usize) -> bool

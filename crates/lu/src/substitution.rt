@@ -3,11 +3,11 @@ ghost use mathlib.Core.Path.{_≡_};
 ghost use Prim.Native.Nat.{ℕ, _+_, _*_, _<_};
 ghost use lib.ListN.{length, getD};
 ghost use lib.Ieee.{binary64};
-ghost use Rattle.arithmetic.specs.Matrix.{patch, column};
-ghost use Rattle.factoring.specs.Solve.{permuted, forwardStep, lowered, backStep, solved, withColumn, solvedMatrix, signOf, determinantOf, swaps, forward as forwardOf, back as backOf};
+ghost use Rattle.arithmetic_matrices.specs.Matrix.{patch, column};
+ghost use Rattle.lu_factoring.specs.Solve.{permuted, forwardStep, lowered, backStep, solved, withColumn, solvedMatrix, signOf, determinantOf, swaps, forward as forwardOf, back as backOf};
 use crate::column::load_column;
 use crate::column::store_column;
-use arithmetic::matrix::entry;
+use arithmetic_matrices::matrix::entry;
 
 // The swaps of the factoring, in their order.
 pub fn permute(pivots: &[usize], x: &mut [f64], n: usize)

@@ -9,16 +9,16 @@ use lib.Dec.{T, leb, leb→le}
 use lib.Ieee.{Float, Format, sub, mul, div}
 use lib.Ieee.Fits.{and-l, and-r}
 use lib.Ieee.Scale.{finite}
-use Rattle.floats.specs.Float.{one, inversePowerOfTwo}
-use Rattle.arithmetic.specs.Matrix.{at, item, column}
-use Rattle.arithmetic.specs.Product.{dot, squared}
-use Rattle.arithmetic.specs.Finite.{FiniteDot, FiniteProduct}
-use Rattle.floats.proofs.Order.{split}
-use Rattle.factoring.specs.Lu.{swapRows, luAt, luPivot, luFactors, luPivots}
-use Rattle.factoring.specs.Solve.{permuted, forward, back}
-use Rattle.factoring.specs.Finite.{FiniteColumn, FiniteForward, FiniteBackStep, FiniteSolution}
-use Rattle.functions.specs.Exponential.{power, coefficient, flipped, numerator, denominator, pade, scaled}
-use Rattle.functions.specs.Finite.{FiniteCombination, FinitePade, FiniteRun}
+use Rattle.arithmetic_floats.specs.Float.{one, inversePowerOfTwo}
+use Rattle.arithmetic_matrices.specs.Matrix.{at, item, column}
+use Rattle.arithmetic_matrices.specs.Product.{dot, squared}
+use Rattle.arithmetic_matrices.specs.Finite.{FiniteDot, FiniteProduct}
+use Rattle.arithmetic_floats.proofs.Order.{split}
+use Rattle.lu_factoring.specs.Lu.{swapRows, luAt, luPivot, luFactors, luPivots}
+use Rattle.lu_factoring.specs.Solve.{permuted, forward, back}
+use Rattle.lu_factoring.specs.Finite.{FiniteColumn, FiniteForward, FiniteBackStep, FiniteSolution}
+use Rattle.functions_exponential.specs.Exponential.{power, coefficient, flipped, numerator, denominator, pade, scaled}
+use Rattle.functions_exponential.specs.Finite.{FiniteCombination, FinitePade, FiniteRun}
 
 -- ---- the test
 

@@ -4,8 +4,8 @@ use mathlib.Core.Path.{_≡_, refl}
 use mathlib.Core.Bool.{true}
 use mathlib.Core.List.{List, [], _∷_}
 use lib.Ieee.{Format, binary32, binary64, ofBits, toBits}
-use Rattle.floats.specs.Float.{roundAway}
-use Rattle.floats.specs.Root.{sqrtOf}
+use Rattle.arithmetic_floats.specs.Float.{roundAway}
+use Rattle.arithmetic_floats.specs.Root.{sqrtOf}
 use Rattle.samples.specs.Shown.{Line, hold}
 use Rattle.samples.specs.Opened.{all}
 

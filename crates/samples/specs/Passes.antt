@@ -4,10 +4,10 @@ use mathlib.Core.Path.{_≡_, refl}
 use mathlib.Core.Bool.{true, cond}
 use mathlib.Core.List.{List, [], _∷_}
 use lib.Ieee.{Float, Format, binary64}
-use Rattle.arithmetic.specs.Product.{minusIdentityM}
-use Rattle.functions.specs.Iterate.{Step, running, stopped, failed}
-use Rattle.functions.specs.Roots.{newton, denmanBeavers}
-use Rattle.functions.specs.Logarithm.{Rooted, isFar, rooting, series}
+use Rattle.arithmetic_matrices.specs.Product.{minusIdentityM}
+use Rattle.functions_exponential.specs.Iterate.{Step, running, stopped, failed}
+use Rattle.functions_exponential.specs.Roots.{newton, denmanBeavers}
+use Rattle.functions_exponential.specs.Logarithm.{Rooted, isFar, rooting, series}
 use Rattle.samples.specs.Shown.{Line, hold, numbers}
 use Rattle.samples.specs.Opened.{all}
 

@@ -5,11 +5,11 @@ use lib.Dec.{T, lit≤}
 use lib.IntN.{pos}
 use lib.Ieee.{Float, fin, binary64}
 use mathlib.Core.Bool.{false}
-use Rattle.factoring.specs.Lu.{luOutcome}
-use Rattle.factoring.specs.declared.LuOutcome.the-variants.{Factored}
-use Rattle.functions.specs.Exponential.{exponential, denominator, scaled, block, quarter}
-use Rattle.functions.specs.Frechet.{Proviso}
-use Rattle.functions.proofs.FirstOutput.{first-output-alone, counted}
+use Rattle.lu_factoring.specs.Lu.{luOutcome}
+use Rattle.lu_factoring.specs.declared.LuOutcome.the-variants.{Factored}
+use Rattle.functions_exponential.specs.Exponential.{exponential, denominator, scaled, block, quarter}
+use Rattle.functions_exponential.specs.Frechet.{Proviso}
+use Rattle.functions_exponential.proofs.FirstOutput.{first-output-alone, counted}
 use Rattle.samples.specs.Checked.{every, finiteDot, finiteProduct, finiteCombination, finiteColumn, finiteForward, finiteBackStep, finiteSolution, finitePade, finiteRun, run-ok}
 use Rattle.samples.specs.Opened.{all}
 

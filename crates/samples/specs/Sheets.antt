@@ -5,9 +5,9 @@ use mathlib.Core.Bool.{true}
 use mathlib.Core.List.{List, [], _∷_, _++_}
 use lib.ListN.{take, set}
 use lib.Ieee.{binary64}
-use Rattle.encoding.specs.Bytes.{wordAt, numberAt, numbersAt}
-use Rattle.encoding.specs.Text.{hexDigits, decimalIn, decimal, numberText, numbersText, detailsText, refusedLine, doneHead, doneLine, resultLine}
-use Rattle.encoding.specs.Parse.{byteIn, section, order, task, tasks, parseEnd, parseEach, parseTasks, parseExponents, parseDirections, parseSheet}
+use Rattle.sheet_encoding.specs.Bytes.{wordAt, numberAt, numbersAt}
+use Rattle.sheet_encoding.specs.Text.{hexDigits, decimalIn, decimal, numberText, numbersText, detailsText, refusedLine, doneHead, doneLine, resultLine}
+use Rattle.sheet_encoding.specs.Parse.{byteIn, section, order, task, tasks, parseEnd, parseEach, parseTasks, parseExponents, parseDirections, parseSheet}
 use Rattle.sheet.specs.Tasks.{valueFor, derivativeFor, both, ratio, taskResult, taskLines, linesOf, sheetLines}
 use Rattle.samples.specs.Shown.{Line, hold}
 use Rattle.samples.specs.Opened.{all}

@@ -5,12 +5,12 @@ use mathlib.Core.Bool.{true, false, cond}
 use mathlib.Core.List.{List, [], _∷_, _++_, map}
 use lib.IntN.{ℤ, pos, negsuc}
 use lib.Ieee.{Float, binary64, fin, ofBits, round}
-use Rattle.floats.specs.Float.{+zero, halvings, integerOf}
-use Rattle.arithmetic.specs.Matrix.{tab}
-use Rattle.questions.specs.Result.{_>>=_}
+use Rattle.arithmetic_floats.specs.Float.{+zero, halvings, integerOf}
+use Rattle.arithmetic_matrices.specs.Matrix.{tab}
+use Rattle.arithmetic_questions.specs.Result.{_>>=_}
 use Rattle.lu.specs.Calls.{Factorisation, compute, determinant}
-use Rattle.functions.specs.Powers.{isWhole}
-use Rattle.functions.specs.Calls.{expm, logm, sqrtm, frechetExpm}
+use Rattle.functions_exponential.specs.Powers.{isWhole}
+use Rattle.functions_exponential.specs.Calls.{expm, logm, sqrtm, frechetExpm}
 use Rattle.samples.specs.Shown.{Line, hold, shown, bits, both, number, factorsAndPivots}
 use Rattle.samples.specs.Opened.{all}
 

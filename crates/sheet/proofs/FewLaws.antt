@@ -8,25 +8,25 @@ use lib.Dec.{T, lit≤, eqb}
 use lib.Ieee.{Float, Format, binary64, fits, lt, add}
 use lib.Ieee.Fits.{add-fits, cond-fits}
 use lib.Ieee.Scale.{finite}
-use Rattle.floats.specs.Float.{halvings, integerOf, larger, one}
-use Rattle.arithmetic.specs.Matrix.{at}
-use Rattle.arithmetic.specs.Product.{sum, timesM}
-use Rattle.arithmetic.specs.Norm.{sumOfMagnitudes, largest, norm1}
-use Rattle.questions.specs.Result.{Result, refused, done, _>>=_, outcome}
-use Rattle.questions.specs.Questions.{Call, Profile, asked, answer}
-use Rattle.questions.specs.Answers.{reported}
-use Rattle.questions.specs.Outputs.{Both}
-use Rattle.questions.specs.declared.answer.Outcome.{Outcome}
-use Rattle.floats.proofs.Least.{halvings-le}
-use Rattle.floats.proofs.Zero.{zero-fits}
-use Rattle.functions.specs.Roots.{squareRoot}
-use Rattle.functions.specs.Logarithm.{logarithm}
-use Rattle.functions.specs.Powers.{halvingsFor, expM, wholePower, fractionalPower, isWhole, powerM}
-use Rattle.functions.specs.Trigonometric.{trigonometricHalvings, cosM, sinM}
-use Rattle.functions.specs.Derivatives.{blockQuarters, frechetExpM, frechetLogM, rootDerivative, frechetSqrtM, unitDirection, conditioned, condExpM}
-use Rattle.functions.specs.Exponential.{block}
-use Rattle.functions.specs.Calls.{expm, logm, sqrtm, powm, cosm, sinm, frechetExpm, frechetLogm, frechetSqrtm, condExpm}
-use Rattle.encoding.specs.Text.{Few}
+use Rattle.arithmetic_floats.specs.Float.{halvings, integerOf, larger, one}
+use Rattle.arithmetic_matrices.specs.Matrix.{at}
+use Rattle.arithmetic_matrices.specs.Product.{sum, timesM}
+use Rattle.arithmetic_matrices.specs.Norm.{sumOfMagnitudes, largest, norm1}
+use Rattle.arithmetic_questions.specs.Result.{Result, refused, done, _>>=_, outcome}
+use Rattle.arithmetic_questions.specs.Questions.{Call, Profile, asked, answer}
+use Rattle.arithmetic_questions.specs.Answers.{reported}
+use Rattle.arithmetic_questions.specs.Outputs.{Both}
+use Rattle.arithmetic_questions.specs.declared.answer.Outcome.{Outcome}
+use Rattle.arithmetic_floats.proofs.Least.{halvings-le}
+use Rattle.arithmetic_floats.proofs.Zero.{zero-fits}
+use Rattle.functions_exponential.specs.Roots.{squareRoot}
+use Rattle.functions_exponential.specs.Logarithm.{logarithm}
+use Rattle.functions_exponential.specs.Powers.{halvingsFor, expM, wholePower, fractionalPower, isWhole, powerM}
+use Rattle.functions_exponential.specs.Trigonometric.{trigonometricHalvings, cosM, sinM}
+use Rattle.functions_exponential.specs.Derivatives.{blockQuarters, frechetExpM, frechetLogM, rootDerivative, frechetSqrtM, unitDirection, conditioned, condExpM}
+use Rattle.functions_exponential.specs.Exponential.{block}
+use Rattle.functions_exponential.specs.Calls.{expm, logm, sqrtm, powm, cosm, sinm, frechetExpm, frechetLogm, frechetSqrtm, condExpm}
+use Rattle.sheet_encoding.specs.Text.{Few}
 use Rattle.sheet.specs.Tasks.{valueFor, derivativeFor}
 
 -- ---- halvings that a norm sets

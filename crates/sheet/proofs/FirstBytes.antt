@@ -10,15 +10,15 @@ use lib.Dec.{ltb}
 use lib.ListN.{length, take, length-take}
 use lib.Seq.{getD-take, take-all}
 use lib.Ieee.{Format}
-use Rattle.functions.proofs.ConditionLaws.{square-le8}
-use Rattle.encoding.specs.declared.parse.Step.{Step}
-use Rattle.encoding.specs.declared.parse.Step.the-variants.{Value, Bad}
-use Rattle.encoding.specs.declared.parse.Parse.{Parse}
-use Rattle.encoding.specs.declared.parse.Parse.the-variants.{Sheet, Refused}
-use Rattle.encoding.specs.Bytes.{byteAt}
-use Rattle.encoding.specs.Parse.{byteIn, thenStep, thenParse, bytesAfter, section, order, indexLimit, task, tasks, parseEnd, parseEach, parseTasks, parseExponents, parseDirections, parseSheet, directionsAt, exponentsAt}
+use Rattle.functions_exponential.proofs.ConditionLaws.{square-le8}
+use Rattle.sheet_encoding.specs.declared.parse.Step.{Step}
+use Rattle.sheet_encoding.specs.declared.parse.Step.the-variants.{Value, Bad}
+use Rattle.sheet_encoding.specs.declared.parse.Parse.{Parse}
+use Rattle.sheet_encoding.specs.declared.parse.Parse.the-variants.{Sheet, Refused}
+use Rattle.sheet_encoding.specs.Bytes.{byteAt}
+use Rattle.sheet_encoding.specs.Parse.{byteIn, thenStep, thenParse, bytesAfter, section, order, indexLimit, task, tasks, parseEnd, parseEach, parseTasks, parseExponents, parseDirections, parseSheet, directionsAt, exponentsAt}
 use Rattle.sheet.specs.Tasks.{linesOf, sheetLines}
-use Rattle.encoding.proofs.ParseLaws.{byteIn-is, section-is, order-is}
+use Rattle.sheet_encoding.proofs.ParseLaws.{byteIn-is, section-is, order-is}
 
 -- ---- two sheets that are read alike
 

@@ -8,12 +8,12 @@ use mathlib.Core.List.{List, [], _++_}
 use borrow.Author.Tests.{le-leb, eq-eqb, ne-eqb}
 use lib.ListN.{length}
 use lib.Ieee.{Format}
-use Rattle.encoding.specs.declared.parse.Parse.{Parse}
-use Rattle.encoding.specs.declared.parse.Parse.the-variants.{Sheet, Refused}
-use Rattle.encoding.specs.Bytes.{byteAt}
-use Rattle.encoding.specs.Text.{refusedLine, resultLine}
-use Rattle.encoding.specs.Wrote.{AllLines}
-use Rattle.encoding.specs.Parse.{indexLimit, parseSheet, directionsAt, exponentsAt, tasksAt, SheetIs}
+use Rattle.sheet_encoding.specs.declared.parse.Parse.{Parse}
+use Rattle.sheet_encoding.specs.declared.parse.Parse.the-variants.{Sheet, Refused}
+use Rattle.sheet_encoding.specs.Bytes.{byteAt}
+use Rattle.sheet_encoding.specs.Text.{refusedLine, resultLine}
+use Rattle.sheet_encoding.specs.Wrote.{AllLines}
+use Rattle.sheet_encoding.specs.Parse.{indexLimit, parseSheet, directionsAt, exponentsAt, tasksAt, SheetIs}
 use Rattle.sheet.specs.Tasks.{taskResult, taskLines, linesOf, sheetLines, TaskReady, Entered}
 
 -- ---- the lines

@@ -6,16 +6,16 @@ use mathlib.Core.List.{List, [], _∷_, _++_, append-nil}
 use borrow.Author.Tests.{lt-ltb, le-ltb, eq-eqb, ne-eqb}
 use lib.ListN.{length}
 use lib.Ieee.{Float, Format}
-use Rattle.floats.specs.Float.{+zero}
-use Rattle.questions.specs.Result.{Result, refused, done, exit, outcome}
-use Rattle.questions.specs.Answers.{reported}
-use Rattle.questions.specs.Outputs.{Both, OneOutputWith, TwoOutputsWith}
-use Rattle.questions.specs.declared.answer.Outcome.{Outcome}
-use Rattle.functions.specs.Derivatives.{Condition}
-use Rattle.functions.specs.Calls.{expm, logm, sqrtm, powm, cosm, sinm, frechetExpm, frechetLogm, frechetSqrtm, condExpm}
-use Rattle.encoding.specs.Bytes.{numbersAt}
-use Rattle.encoding.specs.Text.{resultLine, carrying}
-use Rattle.encoding.specs.Wrote.{Lined}
+use Rattle.arithmetic_floats.specs.Float.{+zero}
+use Rattle.arithmetic_questions.specs.Result.{Result, refused, done, exit, outcome}
+use Rattle.arithmetic_questions.specs.Answers.{reported}
+use Rattle.arithmetic_questions.specs.Outputs.{Both, OneOutputWith, TwoOutputsWith}
+use Rattle.arithmetic_questions.specs.declared.answer.Outcome.{Outcome}
+use Rattle.functions_exponential.specs.Derivatives.{Condition}
+use Rattle.functions_exponential.specs.Calls.{expm, logm, sqrtm, powm, cosm, sinm, frechetExpm, frechetLogm, frechetSqrtm, condExpm}
+use Rattle.sheet_encoding.specs.Bytes.{numbersAt}
+use Rattle.sheet_encoding.specs.Text.{resultLine, carrying}
+use Rattle.sheet_encoding.specs.Wrote.{Lined}
 use Rattle.sheet.specs.Tasks.{valueFor, derivativeFor, both, ratio, directionAt, exponentAt, exponentFor, taskResult}
 
 -- ---- an outcome with the outputs that the call left is the definition's result

@@ -7,16 +7,16 @@ use mathlib.Core.List.{List, [], _∷_, _++_}
 use lib.Dec.{eqb, ltb}
 use lib.ListN.{length, drop}
 use lib.Ieee.{Float, Format, binary64}
-use Rattle.floats.specs.Float.{+zero}
-use Rattle.questions.specs.Result.{Result, refused, done}
-use Rattle.questions.specs.Outputs.{Both}
-use Rattle.functions.specs.Derivatives.{Condition}
-use Rattle.functions.specs.Calls.{expm, logm, sqrtm, powm, cosm, sinm, frechetExpm, frechetLogm, frechetSqrtm, condExpm}
-use Rattle.encoding.specs.declared.parse.Parse.{Parse}
-use Rattle.encoding.specs.declared.parse.Parse.the-variants.{Sheet, Refused}
-use Rattle.encoding.specs.Bytes.{byteAt, numberAt, numbersAt}
-use Rattle.encoding.specs.Text.{refusedLine, resultLine}
-use Rattle.encoding.specs.Parse.{parseSheet, directionsAt, exponentsAt, tasksAt}
+use Rattle.arithmetic_floats.specs.Float.{+zero}
+use Rattle.arithmetic_questions.specs.Result.{Result, refused, done}
+use Rattle.arithmetic_questions.specs.Outputs.{Both}
+use Rattle.functions_exponential.specs.Derivatives.{Condition}
+use Rattle.functions_exponential.specs.Calls.{expm, logm, sqrtm, powm, cosm, sinm, frechetExpm, frechetLogm, frechetSqrtm, condExpm}
+use Rattle.sheet_encoding.specs.declared.parse.Parse.{Parse}
+use Rattle.sheet_encoding.specs.declared.parse.Parse.the-variants.{Sheet, Refused}
+use Rattle.sheet_encoding.specs.Bytes.{byteAt, numberAt, numbersAt}
+use Rattle.sheet_encoding.specs.Text.{refusedLine, resultLine}
+use Rattle.sheet_encoding.specs.Parse.{parseSheet, directionsAt, exponentsAt, tasksAt}
 
 -- ---- one task: n by n matrices, outputs of n * n numbers, a workspace of 8,192
 

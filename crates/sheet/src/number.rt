@@ -4,16 +4,16 @@ ghost use mathlib.Core.Bool.{true};
 ghost use Prim.Native.Nat.{ℕ, _+_, _*_, _≤_, _<_};
 ghost use lib.ListN.{length};
 ghost use lib.Ieee.{binary64};
-ghost use Rattle.functions.specs.Calls.{sqrtm, frechetSqrtm};
-ghost use Rattle.encoding.specs.Bytes.{byteAt, numbersAt};
-ghost use Rattle.encoding.specs.Text.{resultLine};
-ghost use Rattle.encoding.specs.Wrote.{Lined, AllLines};
+ghost use Rattle.functions_exponential.specs.Calls.{sqrtm, frechetSqrtm};
+ghost use Rattle.sheet_encoding.specs.Bytes.{byteAt, numbersAt};
+ghost use Rattle.sheet_encoding.specs.Text.{resultLine};
+ghost use Rattle.sheet_encoding.specs.Wrote.{Lined, AllLines};
 ghost use Rattle.sheet.specs.Tasks.{both, directionAt, taskResult, taskLines, RootCode, RootTask};
 use crate::position::direction_at;
-use encoding::line::put_answer;
-use encoding::reading::read_number;
-use roots::frechet_sqrtm_of_number;
-use roots::sqrtm_of_number;
+use functions_roots::frechet_sqrtm_of_number;
+use functions_roots::sqrtm_of_number;
+use sheet_encoding::line::put_answer;
+use sheet_encoding::reading::read_number;
 
 // Whether the code is that of sqrtm or frechet_sqrtm.
 fn is_root(code: u8) -> bool

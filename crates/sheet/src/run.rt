@@ -3,19 +3,19 @@ ghost use mathlib.Core.Path.{_≡_};
 ghost use Prim.Native.Nat.{_+_, _*_, _≤_};
 ghost use lib.ListN.{length};
 ghost use lib.Ieee.{binary64};
-ghost use Rattle.encoding.specs.Parse.{SheetIs, tasksAt};
+ghost use Rattle.sheet_encoding.specs.Parse.{SheetIs, tasksAt};
 ghost use Rattle.sheet.specs.Tasks.{taskLines, sheetLines, TasksRoom};
-ghost use Rattle.encoding.specs.Wrote.{AllLines};
+ghost use Rattle.sheet_encoding.specs.Wrote.{AllLines};
 use crate::number::are_roots;
 use crate::number::run_roots;
 use crate::position::exponent_at;
 use crate::task::run_task;
-use arithmetic::workspace::small_room;
-use encoding::line::coded;
-use encoding::line::put_refused;
-use encoding::parse::Parse;
-use encoding::parse::parse_sheet;
-use encoding::reading::read_numbers;
+use arithmetic_matrices::workspace::small_room;
+use sheet_encoding::line::coded;
+use sheet_encoding::line::put_refused;
+use sheet_encoding::parse::Parse;
+use sheet_encoding::parse::parse_sheet;
+use sheet_encoding::reading::read_numbers;
 
 // The lines of t tasks, the first at q. A refused task has its line like any other, and the next is run.
 fn run_tasks(

@@ -2,9 +2,9 @@
 use Prim.Native.Nat.{_-_, _≤_}
 use mathlib.Core.Path.{_≡_, refl, _∙_}
 use lib.ListN.{length, getD, length-set}
-use Rattle.arithmetic.specs.Matrix.{patch}
-use Rattle.arithmetic.proofs.MatrixLaws.{tab-getD}
-use Rattle.arithmetic.proofs.PatchLaws.{patch-none, patch-more, patch-all}
+use Rattle.arithmetic_matrices.specs.Matrix.{patch}
+use Rattle.arithmetic_matrices.proofs.MatrixLaws.{tab-getD}
+use Rattle.arithmetic_matrices.proofs.PatchLaws.{patch-none, patch-more, patch-all}
 use native.Mathlib.Omega.{arith}
 use borrow.Author.Needs.{needs}
 use Rattle.lu.proofs.calls.copy_pivots.Statement.{statement}

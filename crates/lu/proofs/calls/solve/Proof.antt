@@ -2,10 +2,10 @@
 use lib.ListN.{length}
 use lib.Ieee.{binary64}
 use denote.Ref.{now}
-use Rattle.questions.specs.Result.{done}
-use Rattle.questions.specs.Questions.{ofSolve}
-use Rattle.questions.proofs.OutputLaws.{output-refused, output-done}
-use Rattle.factoring.specs.Solve.{solvedMatrix}
+use Rattle.arithmetic_questions.specs.Result.{done}
+use Rattle.arithmetic_questions.specs.Questions.{ofSolve}
+use Rattle.arithmetic_questions.proofs.OutputLaws.{output-refused, output-done}
+use Rattle.lu_factoring.specs.Solve.{solvedMatrix}
 use Rattle.lu.specs.Calls.{solve, solveCall}
 use Rattle.lu.proofs.LuQuestionLaws.{solve-passed}
 use borrow.Author.Needs.{needs}

@@ -4,7 +4,7 @@ use lib.ListN.{length}
 use lib.Seq.{length-take-le}
 use lib.Ieee.{binary64}
 use denote.Ref.{now}
-use Rattle.factoring.specs.Solve.{solvedMatrix}
+use Rattle.lu_factoring.specs.Solve.{solvedMatrix}
 use native.Mathlib.Omega.{arith}
 use borrow.Author.Needs.{needs}
 use Rattle.lu.proofs.calls.solve_into.Statement.{statement}

@@ -4,9 +4,9 @@ use Prim.Native.Nat.{_≤_, _-_}
 use mathlib.Core.Path.{_≡_, refl, ap, _∙_}
 use lib.ListN.{length, length-set}
 use lib.Ieee.{nan}
-use Rattle.arithmetic.specs.Matrix.{patch, at}
-use Rattle.arithmetic.proofs.PatchLaws.{patch-none}
-use Rattle.factoring.proofs.ColumnLaws.{load-turn, load-all}
+use Rattle.arithmetic_matrices.specs.Matrix.{patch, at}
+use Rattle.arithmetic_matrices.proofs.PatchLaws.{patch-none}
+use Rattle.lu_factoring.proofs.ColumnLaws.{load-turn, load-all}
 use native.Mathlib.Omega.{arith}
 use borrow.Author.Needs.{needs}
 use Rattle.lu.proofs.column.load_column.Statement.{statement}

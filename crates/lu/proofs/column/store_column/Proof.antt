@@ -3,7 +3,7 @@
 use Prim.Native.Nat.{_≤_, _-_, _*_, _+_}
 use mathlib.Core.Path.{_≡_, ap, _∙_}
 use lib.ListN.{length}
-use Rattle.factoring.proofs.ColumnLaws.{columnTo, length-columnTo, store-none, store-turn, store-all}
+use Rattle.lu_factoring.proofs.ColumnLaws.{columnTo, length-columnTo, store-none, store-turn, store-all}
 use native.Mathlib.Omega.{arith}
 use borrow.Author.Needs.{needs}
 use Rattle.lu.proofs.column.store_column.Statement.{statement}

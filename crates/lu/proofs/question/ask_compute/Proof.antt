@@ -2,7 +2,7 @@
 use borrow.Author.Needs.{needs}
 use native.Mathlib.Omega.{arith}
 use denote.Ref.{now}
-use Rattle.questions.proofs.QuestionLaws.{told, single, joined, stops, goes-on, all-yes}
+use Rattle.arithmetic_questions.proofs.QuestionLaws.{told, single, joined, stops, goes-on, all-yes}
 use Rattle.lu.proofs.LuQuestionLaws.{square64, compute-asked}
 use Rattle.lu.proofs.question.ask_compute.Statement.{statement}
 use Rattle.lu.proofs.question.ask_compute.Tie as tie

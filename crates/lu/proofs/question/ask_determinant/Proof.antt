@@ -1,7 +1,7 @@
 -- `ask_determinant` meets its contract. Assumes nothing.
 use borrow.Author.Needs.{needs}
 use denote.Ref.{now}
-use Rattle.questions.proofs.QuestionLaws.{told, single, stops, goes-on}
+use Rattle.arithmetic_questions.proofs.QuestionLaws.{told, single, stops, goes-on}
 use Rattle.lu.proofs.LuQuestionLaws.{determinant-asked}
 use Rattle.lu.proofs.question.ask_determinant.Statement.{statement}
 use Rattle.lu.proofs.question.ask_determinant.Tie as tie

@@ -1,6 +1,6 @@
 -- `ask_order` meets its contract. Assumes nothing.
 use borrow.Author.Needs.{needs}
-use Rattle.questions.proofs.QuestionLaws.{single, joined}
+use Rattle.arithmetic_questions.proofs.QuestionLaws.{single, joined}
 use Rattle.lu.proofs.question.ask_order.Statement.{statement}
 use Rattle.lu.proofs.question.ask_order.Tie as tie
 

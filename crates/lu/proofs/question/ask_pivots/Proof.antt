@@ -5,7 +5,7 @@ use Prim.Native.Nat.{_-_, _≤_}
 use mathlib.Core.Path.{_≡_, refl, sym, _∙_}
 use lib.ListN.{length, drop}
 use borrow.Author.Tests.{not-true, not-false}
-use Rattle.questions.specs.Questions.{pivotsFrom}
+use Rattle.arithmetic_questions.specs.Questions.{pivotsFrom}
 use Rattle.lu.proofs.LuQuestionLaws.{pivots-more, pivots-stop, pivots-end}
 use Rattle.lu.proofs.question.ask_pivots.Statement.{statement}
 use Rattle.lu.proofs.question.ask_pivots.Tie as tie

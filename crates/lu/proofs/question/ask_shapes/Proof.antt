@@ -3,8 +3,8 @@ use borrow.Author.Needs.{needs}
 use native.Mathlib.Omega.{arith}
 use Prim.Native.Nat.{_*_, _≤_}
 use mathlib.Core.Path.{_≡_}
-use Rattle.questions.specs.declared.answer.Question.the-variants.{Passed}
-use Rattle.questions.proofs.QuestionLaws.{told, single, joined, stops, goes-on, all-yes}
+use Rattle.arithmetic_questions.specs.declared.answer.Question.the-variants.{Passed}
+use Rattle.arithmetic_questions.proofs.QuestionLaws.{told, single, joined, stops, goes-on, all-yes}
 use Rattle.lu.proofs.LuQuestionLaws.{sides64}
 use Rattle.lu.proofs.question.ask_shapes.Statement.{statement}
 use Rattle.lu.proofs.question.ask_shapes.Tie as tie

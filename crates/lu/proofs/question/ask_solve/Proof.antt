@@ -1,7 +1,7 @@
 -- `ask_solve` meets its contract. Assumes nothing.
 use borrow.Author.Needs.{needs}
 use denote.Ref.{now}
-use Rattle.questions.proofs.QuestionLaws.{told, single, stops, goes-on}
+use Rattle.arithmetic_questions.proofs.QuestionLaws.{told, single, stops, goes-on}
 use Rattle.lu.proofs.LuQuestionLaws.{solve-asked}
 use Rattle.lu.proofs.question.ask_solve.Statement.{statement}
 use Rattle.lu.proofs.question.ask_solve.Tie as tie

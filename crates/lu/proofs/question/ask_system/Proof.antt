@@ -1,7 +1,7 @@
 -- `ask_system` meets its contract. Assumes nothing.
 use borrow.Author.Needs.{needs}
 use native.Mathlib.Omega.{arith}
-use Rattle.questions.proofs.QuestionLaws.{told, single, joined, stops, goes-on, all-yes}
+use Rattle.arithmetic_questions.proofs.QuestionLaws.{told, single, joined, stops, goes-on, all-yes}
 use Rattle.lu.proofs.LuQuestionLaws.{square64}
 use Rattle.lu.proofs.question.ask_system.Statement.{statement}
 use Rattle.lu.proofs.question.ask_system.Tie as tie

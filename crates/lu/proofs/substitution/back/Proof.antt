@@ -4,20 +4,20 @@ use Prim.Native.Nat.{_≤_, _-_}
 use mathlib.Core.Path.{_≡_, ap, _∙_}
 use lib.ListN.{length}
 use lib.Ieee.{binary64}
-use Rattle.factoring.proofs.SolveLaws.{length-backStep, back-turn}
+use Rattle.lu_factoring.proofs.SolveLaws.{length-backStep, back-turn}
 use native.Mathlib.Omega.{arith}
 use borrow.Author.Needs.{needs}
 use Rattle.lu.proofs.substitution.back.Statement.{statement}
 use Rattle.lu.proofs.substitution.back.Tie as tie
 
 abbrev Inv-loop : tie.InvT-loop
-Inv-loop f n x₀ k₀ x k = (k ≤ n) × (length x ≡ n) × (x ≡ Rattle.factoring.specs.Solve.back binary64 n f x₀ (n - k))
+Inv-loop f n x₀ k₀ x k = (k ≤ n) × (length x ≡ n) × (x ≡ Rattle.lu_factoring.specs.Solve.back binary64 n f x₀ (n - k))
 
 abbrev μ-loop : tie.MeasureT-loop
 μ-loop f n x₀ k₀ x k = k
 
 loop-holds : tie.Need-loop-holds Inv-loop μ-loop
-unfolding Rattle.factoring.specs.Solve.back
+unfolding Rattle.lu_factoring.specs.Solve.back
 loop-holds c =
     let s : tie.Start Inv-loop μ-loop = search in
     let e : s .args .n - s .args .n ≡ 0 = omega arith in
@@ -41,7 +41,7 @@ returns c =
     let l = head .loop in
     let a = s .args in
     let e : a .n - l .k ≡ a .n = omega arith in
-    l .inv .2 ∙ ap (Rattle.factoring.specs.Solve.back binary64 (a .n) (a .f .now) (a .x .now)) e
+    l .inv .2 ∙ ap (Rattle.lu_factoring.specs.Solve.back binary64 (a .n) (a .f .now) (a .x .now)) e
 
 pub back-spec : {M : Type 1} → statement M
 back-spec =

@@ -3,8 +3,8 @@
 use mathlib.Core.Path.{ap, _∙_}
 use lib.ListN.{getD, set, length-set}
 use lib.Ieee.{binary64, nan, div}
-use Rattle.arithmetic.specs.Matrix.{at}
-use Rattle.factoring.proofs.SolveLaws.{back-step}
+use Rattle.arithmetic_matrices.specs.Matrix.{at}
+use Rattle.lu_factoring.proofs.SolveLaws.{back-step}
 use borrow.Author.Needs.{needs}
 use Rattle.lu.proofs.substitution.back_step.Statement.{statement}
 use Rattle.lu.proofs.substitution.back_step.Tie as tie

@@ -3,8 +3,8 @@
 use Prim.Native.Nat.{_≤_, _-_}
 use mathlib.Core.Path.{_≡_, refl, ap, _∙_}
 use lib.Ieee.{binary64}
-use Rattle.factoring.specs.Solve.{product, determinantOf, signOf}
-use Rattle.factoring.proofs.SolveLaws.{product-turn}
+use Rattle.lu_factoring.specs.Solve.{product, determinantOf, signOf}
+use Rattle.lu_factoring.proofs.SolveLaws.{product-turn}
 use native.Mathlib.Omega.{arith}
 use borrow.Author.Needs.{needs}
 use Rattle.lu.proofs.substitution.determinant.Statement.{statement}

@@ -4,20 +4,20 @@ use Prim.Native.Nat.{_≤_, _-_}
 use mathlib.Core.Path.{_≡_, refl, ap, _∙_}
 use lib.ListN.{length}
 use lib.Ieee.{binary64}
-use Rattle.factoring.proofs.SolveLaws.{length-forwardStep, forward-turn}
+use Rattle.lu_factoring.proofs.SolveLaws.{length-forwardStep, forward-turn}
 use native.Mathlib.Omega.{arith}
 use borrow.Author.Needs.{needs}
 use Rattle.lu.proofs.substitution.forward.Statement.{statement}
 use Rattle.lu.proofs.substitution.forward.Tie as tie
 
 abbrev Inv-loop : tie.InvT-loop
-Inv-loop f n x₀ k₀ x k = (k ≤ n) × (length x ≡ n) × (x ≡ Rattle.factoring.specs.Solve.forward binary64 n f x₀ k)
+Inv-loop f n x₀ k₀ x k = (k ≤ n) × (length x ≡ n) × (x ≡ Rattle.lu_factoring.specs.Solve.forward binary64 n f x₀ k)
 
 abbrev μ-loop : tie.MeasureT-loop
 μ-loop f n x₀ k₀ x k = n - k
 
 loop-holds : tie.Need-loop-holds Inv-loop μ-loop
-unfolding Rattle.factoring.specs.Solve.forward
+unfolding Rattle.lu_factoring.specs.Solve.forward
 loop-holds c = let s : tie.Start Inv-loop μ-loop = search in (omega arith, s .pre .1, refl)
 
 loop-again : tie.Need-loop-again Inv-loop μ-loop
@@ -37,7 +37,7 @@ returns c =
     let l = head .loop in
     let a = s .args in
     let e : l .k ≡ a .n = omega arith in
-    l .inv .2 ∙ ap (Rattle.factoring.specs.Solve.forward binary64 (a .n) (a .f .now) (a .x .now)) e
+    l .inv .2 ∙ ap (Rattle.lu_factoring.specs.Solve.forward binary64 (a .n) (a .f .now) (a .x .now)) e
 
 pub forward-spec : {M : Type 1} → statement M
 forward-spec =

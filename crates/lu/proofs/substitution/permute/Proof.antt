@@ -3,8 +3,8 @@
 use Prim.Native.Nat.{_≤_, _-_}
 use mathlib.Core.Path.{_≡_, refl, ap, _∙_}
 use lib.ListN.{length, getD, length-set}
-use Rattle.factoring.specs.Solve.{permuted}
-use Rattle.factoring.proofs.SolveLaws.{permute-turn}
+use Rattle.lu_factoring.specs.Solve.{permuted}
+use Rattle.lu_factoring.proofs.SolveLaws.{permute-turn}
 use native.Mathlib.Omega.{arith}
 use borrow.Author.Needs.{needs}
 use Rattle.lu.proofs.substitution.permute.Statement.{statement}

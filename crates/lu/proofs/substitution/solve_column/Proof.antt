@@ -1,7 +1,7 @@
 -- `solve_column` meets its contract, by what its three callees ensure.
 -- Assumes nothing.
 use lib.Ieee.{binary64}
-use Rattle.factoring.proofs.SolveLaws.{solve-is}
+use Rattle.lu_factoring.proofs.SolveLaws.{solve-is}
 use borrow.Author.Needs.{needs}
 use Rattle.lu.proofs.substitution.solve_column.Statement.{statement}
 use Rattle.lu.proofs.substitution.solve_column.Tie as tie

@@ -3,7 +3,7 @@ use Prim.Native.Nat.{_-_, _*_, _≤_}
 use mathlib.Core.Path.{_≡_, ap, _∙_}
 use lib.ListN.{length}
 use lib.Ieee.{binary64}
-use Rattle.factoring.proofs.ColumnLaws.{solvedTo, solved-none, solved-all, solved-more}
+use Rattle.lu_factoring.proofs.ColumnLaws.{solvedTo, solved-none, solved-all, solved-more}
 use native.Mathlib.Omega.{arith}
 use borrow.Author.Needs.{needs}
 use Rattle.lu.proofs.substitution.solve_columns.Statement.{statement}

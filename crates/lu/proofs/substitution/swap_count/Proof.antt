@@ -3,8 +3,8 @@
 use Prim.Native.Nat.{_≤_, _-_}
 use mathlib.Core.Path.{_≡_, refl, ap, _∙_}
 use lib.ListN.{getD}
-use Rattle.factoring.specs.Solve.{swaps}
-use Rattle.factoring.proofs.SolveLaws.{swaps-turn}
+use Rattle.lu_factoring.specs.Solve.{swaps}
+use Rattle.lu_factoring.proofs.SolveLaws.{swaps-turn}
 use mathlib.Core.Logic.{⊎-elim}
 use mathlib.Core.Bool.{true, false}
 use borrow.Author.Tests.{eq-eqb, ne-eqb}

@@ -3,7 +3,7 @@ use Prim.Native.Nat.{ℕ, _+_, _*_, _-_, _≤_, _<_}
 use mathlib.Core.Path.{_≡_}
 use borrow.Author.Count.{below-more}
 use borrow.Author.Tests.{not-false}
-use Rattle.encoding.specs.Bytes.{byteAt}
+use Rattle.sheet_encoding.specs.Bytes.{byteAt}
 use Rattle.sheet.specs.Tasks.{RootCode}
 use native.Mathlib.Omega.{arith}
 use borrow.Author.Needs.{needs}

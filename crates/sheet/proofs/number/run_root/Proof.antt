@@ -2,7 +2,7 @@
 use Prim.Native.Nat.{_+_}
 use denote.Ref.{now}
 use lib.Ieee.{binary64}
-use Rattle.encoding.specs.Bytes.{byteAt}
+use Rattle.sheet_encoding.specs.Bytes.{byteAt}
 use Rattle.sheet.proofs.TaskLaws.{lined-as}
 use Rattle.sheet.proofs.NumberLaws.{derivative-code, task-root, task-root-derivative}
 use native.Mathlib.Omega.{arith}

@@ -2,7 +2,7 @@
 use mathlib.Core.Path.{sym, _∙_}
 use denote.Ref.{now}
 use lib.Ieee.{binary64}
-use Rattle.encoding.proofs.ParseLaws.{sheet-is}
+use Rattle.sheet_encoding.proofs.ParseLaws.{sheet-is}
 use Rattle.sheet.proofs.SheetLaws.{lines-refused, lines-accepted}
 use native.Mathlib.Omega.{arith}
 use borrow.Author.Needs.{needs}

@@ -3,7 +3,7 @@ use mathlib.Core.Path.{ap}
 use Prim.Native.Nat.{ℕ, _+_}
 use denote.Ref.{now}
 use lib.Ieee.{binary64}
-use Rattle.encoding.specs.Parse.{tasksAt}
+use Rattle.sheet_encoding.specs.Parse.{tasksAt}
 use Rattle.sheet.proofs.NumberLaws.{root-task, number-there, lines-of-number}
 use native.Mathlib.Omega.{arith}
 use borrow.Author.Needs.{needs}

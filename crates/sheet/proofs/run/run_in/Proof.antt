@@ -3,7 +3,7 @@ use Prim.Native.Nat.{ℕ}
 use mathlib.Core.Path.{ap, _∙_}
 use denote.Ref.{now}
 use lib.Ieee.{binary64}
-use Rattle.encoding.specs.Bytes.{numbersAt}
+use Rattle.sheet_encoding.specs.Bytes.{numbersAt}
 use Rattle.sheet.proofs.SheetLaws.{task-ready}
 use borrow.Author.Needs.{needs}
 use Rattle.sheet.proofs.run.run_in.Statement.{statement}

@@ -5,9 +5,9 @@ use denote.Ref.{now}
 use lib.ListN.{length}
 use lib.Ieee.{binary64}
 use Rattle.sheet.specs.Tasks.{taskLines}
-use Rattle.encoding.specs.Wrote.{Wrote}
-use Rattle.encoding.proofs.BytesLaws.{length-numbersAt}
-use Rattle.encoding.proofs.WroteLaws.{wrote-none, wrote-more}
+use Rattle.sheet_encoding.specs.Wrote.{Wrote}
+use Rattle.sheet_encoding.proofs.BytesLaws.{length-numbersAt}
+use Rattle.sheet_encoding.proofs.WroteLaws.{wrote-none, wrote-more}
 use Rattle.sheet.proofs.SheetLaws.{lines-none, lines-more}
 use native.Mathlib.Omega.{arith}
 use Rattle.sheet.proofs.run.run_tasks.Statement.{statement}

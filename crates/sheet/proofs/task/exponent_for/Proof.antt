@@ -1,7 +1,7 @@
 -- `exponent_for` meets its contract. Assumes nothing.
 use borrow.Author.Tests.{eq-eqb, ne-eqb}
 use lib.Ieee.{binary64}
-use Rattle.floats.proofs.Constants.{+zero-bits}
+use Rattle.arithmetic_floats.proofs.Constants.{+zero-bits}
 use Rattle.sheet.proofs.task.exponent_for.Statement.{statement}
 use Rattle.sheet.proofs.task.exponent_for.Tie as tie
 

@@ -2,7 +2,7 @@
 use Prim.Native.Nat.{_+_}
 use denote.Ref.{now}
 use lib.Ieee.{binary64}
-use Rattle.encoding.specs.Bytes.{byteAt}
+use Rattle.sheet_encoding.specs.Bytes.{byteAt}
 use Rattle.sheet.proofs.TaskLaws.{task-value, task-derivative, task-condition, lined-as}
 use native.Mathlib.Omega.{arith}
 use borrow.Author.Needs.{needs}

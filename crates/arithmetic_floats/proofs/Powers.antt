@@ -1,0 +1,114 @@
+-- Powers of two by their bit patterns, over the format: 2 ^ i smallest values. Assumes nothing.
+use mathlib.Core.Path.{_≡_, refl, sym, ap, _∙_, subst}
+use mathlib.Core.Bool.{Bool, true, false, not, cond, _&&_}
+use Prim.Native.Nat.{ℕ, zero, suc, _+_, _-_, _*_, _/_, _%_, _^_, _≤_, _<_}
+use native.Mathlib.Nat.{le-refl, le-of-eq, lt-of-lt-of-le, lt-of-le-of-lt, one-mul, zero-mul, zero-add, mul-right-comm, mul-lt-mul-of-pos-right, lt-of-mul-lt-mul-right, mul-div-cancel, div-one, suc-mul}
+use native.Mathlib.Omega.{arith}
+use lib.IntN.{ℤ, pos, negsuc}
+use lib.Dec.{T, leb, ltb, eqb, nleb→lt, le→leb, lt→ltb}
+use lib.Arith.{lt→nleb}
+use lib.Pow.{pow-add, pow-pos, pow-mono, pow-lt}
+use lib.Ieee.{Float, fin, isNan, Format, prec, emax, low, up, down, minus, size, hid, fits, toBits, ofBits}
+use lib.Ieee.Bits.{is-true, is-false, ofBits-toBits}
+use lib.Ieee.Digits.{minus-val}
+use lib.Ieee.Exact.{HasValue}
+use lib.Ieee.Fits.{two, and-i, down-pos}
+use Rattle.arithmetic_floats.specs.Float.{powerOfTwo, inversePowerOfTwo}
+use Rattle.arithmetic_floats.proofs.Rounding.{size-is}
+use Rattle.arithmetic_floats.proofs.Patterns.{toBits-of}
+
+down-minus : (a l : ℕ) → down (minus a l) ≤ 2 ^ l
+down-minus a l = go (leb l a) (nleb→lt l a)
+  where
+    short : (a l : ℕ) → a < l → suc (l - suc a) ≤ l
+    short a l h = omega arith
+
+    go : (b : Bool) → (T (not b) → a < l) → down (cond b (pos (a - l)) (negsuc (l - suc a))) ≤ 2 ^ l
+    go true k = pow-pos l
+    go false k = pow-mono (short a l (k tt))
+
+module _ (f : Format) (i : ℕ) (i-le : i ≤ low f + emax f) where
+  abbrev e : ℤ
+  e = minus i (low f)
+
+  value : HasValue (fin false 1 e) false (2 ^ i) (2 ^ low f)
+  value = (refl, minus-val 1 i (low f) ∙ ap (λ (x : ℕ). x * down e) (one-mul (2 ^ i)))
+
+  below : 1 * up e < 2 ^ suc (emax f) * down e
+  below =
+      lt-of-mul-lt-mul-right (2 ^ low f)
+      (lt-of-le-of-lt (le-of-eq (value .1))
+      (lt-of-lt-of-le (mul-lt-mul-of-pos-right (pow-lt {i = i} {j = suc (emax f) + low f} (omega arith)) (down-pos e))
+      (le-of-eq (ap (λ (x : ℕ). x * down e) (pow-add 2 (suc (emax f)) (low f)) ∙ mul-right-comm (2 ^ suc (emax f)) (2 ^ low f) (down e)))))
+
+  pub pow-fits : T (fits f (fin false 1 e))
+  unfolding fits
+  pow-fits =
+      and-i (eqb (1 % 2) 1 && ltb 1 (2 ^ prec f) && leb (down e) (2 ^ low f)) (ltb (1 * up e) (2 ^ suc (emax f) * down e))
+      (and-i (eqb (1 % 2) 1 && ltb 1 (2 ^ prec f)) (leb (down e) (2 ^ low f)) (lt→ltb 1 (2 ^ prec f) (pow-mono {i = 1} (omega (arith, two f)))) (le→leb (down e) (2 ^ low f) (down-minus i (low f))))
+      (lt→ltb (1 * up e) (2 ^ suc (emax f) * down e) below)
+
+  long : size (2 ^ i) ≡ suc i
+  long = size-is (2 ^ i) i (le-refl (2 ^ i)) (pow-lt (le-refl (suc i)))
+
+  -- a normal one: nothing but the exponent's field
+  pub pow-bits : prec f ≤ suc i → ofBits f ((i + 2 - prec f) * hid f) ≡ fin false 1 e
+  pow-bits h =
+      let k = suc i - prec f in
+      let bits : toBits f (fin false 1 e) ≡ (i + 2 - prec f) * hid f =
+      toBits-of f (fin false 1 e) (2 ^ i) value
+      ∙ ap (λ (n : ℕ). (n - prec f) * hid f + 2 ^ i / 2 ^ (n - prec f)) long
+      ∙ ap (λ (n : ℕ). k * hid f + n) (ap (λ (n : ℕ). n / 2 ^ k) (ap (λ (n : ℕ). 2 ^ n) (parts (prec f) (two f) h) ∙ pow-add 2 (prec f - 1) k) ∙ mul-div-cancel (hid f) (pow-pos k))
+      ∙ sym (suc-mul k (hid f))
+      ∙ ap (λ (n : ℕ). n * hid f) (field (prec f) h) in
+      ap (ofBits f) (sym bits) ∙ ofBits-toBits f (fin false 1 e) pow-fits
+    where
+      parts : (p : ℕ) → 2 ≤ p → p ≤ suc i → i ≡ p - 1 + (suc i - p)
+      parts p a b = omega arith
+
+      field : (p : ℕ) → p ≤ suc i → suc (suc i - p) ≡ i + 2 - p
+      field p b = omega arith
+
+  -- a subnormal one: one digit
+  pub pow-bits-low : i < prec f → ofBits f (2 ^ i) ≡ fin false 1 e
+  pow-bits-low h =
+      let bits : toBits f (fin false 1 e) ≡ 2 ^ i =
+      toBits-of f (fin false 1 e) (2 ^ i) value
+      ∙ ap (λ (n : ℕ). n * hid f + 2 ^ i / 2 ^ n) (ap (λ (n : ℕ). n - prec f) long ∙ none (prec f) h)
+      ∙ ap (λ (n : ℕ). n + 2 ^ i / 1) (zero-mul (hid f)) ∙ zero-add (2 ^ i / 1) ∙ div-one (2 ^ i) in
+      ap (ofBits f) (sym bits) ∙ ofBits-toBits f (fin false 1 e) pow-fits
+    where
+      none : (p : ℕ) → i < p → suc i - p ≡ 0
+      none p h = omega arith
+
+-- ---- 2 ^ s and 2 ^ -s
+
+pub power-is : (l s : ℕ) → fin false 1 (minus (s + l) l) ≡ powerOfTwo s
+power-is l s = ap (λ (b : Bool). fin false 1 (cond b (pos (s + l - l)) (negsuc (l - suc (s + l))))) (is-true (leb l (s + l)) (le→leb l (s + l) (omega arith))) ∙ ap (λ (n : ℕ). fin false 1 (pos n)) (rest s l)
+  where
+    rest : (s l : ℕ) → s + l - l ≡ s
+    rest s l = omega arith
+
+pub inverse-is : (l s : ℕ) → s ≤ l → fin false 1 (minus (l - s) l) ≡ inversePowerOfTwo s
+inverse-is l zero h = ap (λ (n : ℕ). fin false 1 (minus n l)) (none l) ∙ power-is l 0
+  where
+    none : (l : ℕ) → l - 0 ≡ 0 + l
+    none l = omega arith
+inverse-is l (suc s) h =
+    ap (λ (b : Bool). fin false 1 (cond b (pos (l - suc s - l)) (negsuc (l - suc (l - suc s))))) (is-false (leb l (l - suc s)) (lt→nleb l (l - suc s) (omega arith)))
+    ∙ ap (λ (n : ℕ). fin false 1 (negsuc n)) (rest l s h)
+    ∙ sym (ap (λ (b : Bool). fin false 1 (cond b (pos (0 - suc s)) (negsuc (suc s - 1)))) (is-false (leb (suc s) 0) (lt→nleb (suc s) 0 (omega arith))))
+  where
+    rest : (l s : ℕ) → suc s ≤ l → l - suc (l - suc s) ≡ suc s - 1
+    rest l s h = omega arith
+
+-- the format holds them
+number : (f : Format) (e : ℤ) → T (fits f (fin false 1 e)) → T (fits f (fin false 1 e) && not (isNan (fin false 1 e)))
+unfolding isNan
+number f e h = and-i (fits f (fin false 1 e)) true h tt
+
+pub power-fits : (f : Format) (s : ℕ) → s ≤ emax f → T (fits f (powerOfTwo s) && not (isNan (powerOfTwo s)))
+power-fits f s h = number f (pos s) (subst (λ (x : Float). T (fits f x)) (power-is (low f) s) (pow-fits f (s + low f) (omega arith)))
+
+pub inverse-fits : (f : Format) (s : ℕ) → s ≤ low f → T (fits f (inversePowerOfTwo s) && not (isNan (inversePowerOfTwo s)))
+inverse-fits f s h = number f (minus 0 s) (subst (λ (x : Float). T (fits f x)) (inverse-is (low f) s h) (pow-fits f (low f - s) (omega arith)))

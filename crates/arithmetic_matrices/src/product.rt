@@ -1,0 +1,94 @@
+// Products of matrices of order n that stand in slices.
+ghost use mathlib.Core.Path.{_≡_};
+ghost use Prim.Native.Nat.{_+_, _*_, _<_, _≤_};
+ghost use lib.ListN.{length};
+ghost use lib.Ieee.{binary64};
+ghost use Rattle.arithmetic_matrices.specs.Matrix.{tab, part, put, Apart};
+ghost use Rattle.arithmetic_matrices.specs.Product.{rowDot, mulM};
+
+// The row of n numbers of a from x on, times column j of the n by n matrix that begins in b at y.
+// A caller may pass one slice as both.
+pub fn row_dot(a: &[f64], x: usize, b: &[f64], y: usize, j: usize, n: usize) -> f64
+    requires { ⌜ (n ≤ 16) × (j < n) × (x + n ≤ length (now a)) × (y + n * n ≤ length (now b)) ⌝ }
+    ensures { λ r. ⌜ r ≡ rowDot binary64 n (now (a .entry)) x (now (b .entry)) y j ⌝ }
+{
+    let mut sum = 0.0;
+    let mut q = y + j;
+    let mut k = 0;
+    while k < n {
+        sum = sum + a[x + k] * b[q];
+        q += n;
+        k += 1;
+    }
+    sum
+}
+
+// Writes to y + j and on the row at x times the four columns from j on of the n by n matrix at b.
+fn mult_four(w: &mut [f64], x: usize, b: usize, y: usize, j: usize, n: usize)
+    requires { ⌜ (n ≤ 16) × (j + 4 ≤ n) × (x + n ≤ length (now w)) × (b + n * n ≤ length (now w)) × (y + n ≤ length (now w)) ⌝ }
+    ensures { λ _. ⌜ now (w .exit) ≡ put (now (w .entry)) (y + j) (tab 4 (λ t. rowDot binary64 n (now (w .entry)) x (now (w .entry)) b (j + t))) ⌝ }
+{
+    let mut s0 = 0.0;
+    let mut s1 = 0.0;
+    let mut s2 = 0.0;
+    let mut s3 = 0.0;
+    let mut q = b + j;
+    let mut k = 0;
+    while k < n {
+        let v = w[x + k];
+        s0 = s0 + v * w[q];
+        s1 = s1 + v * w[q + 1];
+        s2 = s2 + v * w[q + 2];
+        s3 = s3 + v * w[q + 3];
+        q += n;
+        k += 1;
+    }
+    let z = y + j;
+    w[z] = s0;
+    w[z + 1] = s1;
+    w[z + 2] = s2;
+    w[z + 3] = s3;
+}
+
+// Writes to y + j and on the row at x times the next columns, from j on, of the n by n matrix at b: four of them, or one where fewer than four are left.
+// Returns how many.
+fn mult_next(w: &mut [f64], x: usize, b: usize, y: usize, j: usize, n: usize) -> usize
+    requires { ⌜ (n ≤ 16) × (j < n) × (x + n ≤ length (now w)) × (b + n * n ≤ length (now w)) × (y + n ≤ length (now w)) ⌝ }
+    ensures { λ m. ⌜ (1 ≤ m) × (j + m ≤ n) × (now (w .exit) ≡ put (now (w .entry)) (y + j) (tab m (λ t. rowDot binary64 n (now (w .entry)) x (now (w .entry)) b (j + t)))) ⌝ }
+{
+    if j + 4 <= n {
+        mult_four(w, x, b, y, j, n);
+        return 4;
+    }
+    w[y + j] = row_dot(w, x, w, b, j, n);
+    1
+}
+
+// Writes to y the row at x times the n by n matrix at b.
+pub fn mult_row(w: &mut [f64], x: usize, b: usize, y: usize, n: usize)
+    requires { ⌜ (n ≤ 16) × (x + n ≤ length (now w)) × (b + n * n ≤ length (now w)) × (y + n ≤ length (now w)) ⌝ }
+    requires { ⌜ Apart x n y n × Apart b (n * n) y n ⌝ }
+    ensures { λ _. ⌜ now (w .exit) ≡ put (now (w .entry)) y (tab n (rowDot binary64 n (now (w .entry)) x (now (w .entry)) b)) ⌝ }
+{
+    let mut j = 0;
+    while j < n {
+        j += mult_next(w, x, b, y, j, n);
+    }
+}
+
+// Writes to c the product of the n by n matrices at a and b.
+pub fn mat_mult(w: &mut [f64], a: usize, b: usize, c: usize, n: usize)
+    requires { ⌜ (n ≤ 16) × (a + n * n ≤ length (now w)) × (b + n * n ≤ length (now w)) × (c + n * n ≤ length (now w)) ⌝ }
+    requires { ⌜ Apart a (n * n) c (n * n) × Apart b (n * n) c (n * n) ⌝ }
+    ensures { λ _. ⌜ now (w .exit) ≡ put (now (w .entry)) c (mulM binary64 n (part (now (w .entry)) a (n * n)) (part (now (w .entry)) b (n * n))) ⌝ }
+{
+    let mut x = a;
+    let mut y = c;
+    let mut i = 0;
+    while i < n {
+        mult_row(w, x, b, y, n);
+        x += n;
+        y += n;
+        i += 1;
+    }
+}

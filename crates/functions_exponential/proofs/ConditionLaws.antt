@@ -1,0 +1,117 @@
+-- What a call of cond_expm answers. Assumes nothing.
+use Prim.Native.Nat.{ℕ, _+_, _*_, _≤_}
+use native.Mathlib.Omega.{arith}
+use native.Mathlib.Nat.{zero-add, mul-le-mul}
+use mathlib.Core.Path.{_≡_, refl, sym, ap, _∙_}
+use mathlib.Core.Bool.{Bool, cond}
+use mathlib.Core.List.{List}
+use lib.Dec.{ltb}
+use lib.ListN.{length}
+use lib.IntN.{pos}
+use lib.Ieee.{Float, Format, nan, binary64, emax, hid, div, ofBits, ofInt}
+use Rattle.arithmetic_floats.specs.Float.{+zero, one, constant}
+use Rattle.arithmetic_floats.specs.Root.{sqrtOf}
+use Rattle.arithmetic_floats.proofs.Constants.{one-bits}
+use Rattle.arithmetic_floats.proofs.Widths.{root-once}
+use Rattle.arithmetic_matrices.specs.Matrix.{item, part}
+use Rattle.arithmetic_matrices.specs.Product.{diagonalM}
+use Rattle.arithmetic_matrices.specs.Norm.{frobenius}
+use Rattle.arithmetic_matrices.specs.Workspace.{Room, store, cleared, Only}
+use Rattle.arithmetic_questions.specs.Result.{Result, refused, done, outcome, exit, workspace}
+use Rattle.arithmetic_questions.specs.Questions.{Call, Profile, asked, answer}
+use Rattle.arithmetic_questions.specs.Answers.{numbered, reported, found}
+use Rattle.arithmetic_questions.specs.Outputs.{Both}
+use Rattle.arithmetic_questions.specs.declared.answer.Outcome.{Outcome}
+use Rattle.arithmetic_questions.specs.declared.answer.Outcome.the-variants.{Done, Refused}
+use Rattle.arithmetic_questions.specs.declared.answer.Question.{Question}
+use Rattle.arithmetic_questions.specs.declared.answer.Question.the-variants.{Passed, No}
+use Rattle.arithmetic_questions.specs.declared.answer.Refusal.{Refusal}
+use Rattle.arithmetic_matrices.proofs.MatrixLaws.{tab-is, square-le}
+use Rattle.arithmetic_matrices.proofs.PartLaws.{part-put}
+use Rattle.arithmetic_matrices.proofs.ProductLaws.{length-diagonalM}
+use Rattle.arithmetic_matrices.proofs.Slots.{only-store, only-trans, cleared-only}
+use Rattle.arithmetic_questions.proofs.QuestionLaws.{as-refused}
+use Rattle.arithmetic_questions.proofs.AnswerLaws.{answer-passed, outcome-no, exit-no}
+use Rattle.arithmetic_questions.proofs.OutputLaws.{Late, late-where}
+use Rattle.functions_exponential.specs.Derivatives.{Condition, unitDirection, conditionOf, conditioned, condExpM, frechetExpM}
+use Rattle.functions_exponential.specs.Frechet.{Written}
+use Rattle.functions_exponential.specs.Conditions.{Rated, rated, Conditioned}
+use Rattle.functions_exponential.proofs.FrechetLaws.{late-frechetExpM}
+
+-- the entries of the unit direction, as the code has them: v is the order, r its root
+pub unit-number : (f : Format) (n : ℕ) (v r : Float) → n ≤ 16 → v ≡ ofInt f (pos n) → r ≡ sqrtOf f v → div f (ofBits f (emax f * hid f)) r ≡ div f one (constant f (sqrtOf binary64 (ofInt binary64 (pos n))))
+unit-number f n v r h e k = λ i. div f (one-bits f i) ((k ∙ ap (sqrtOf f) e ∙ sym (root-once f n h)) i)
+
+-- all of a list is a part of it
+pub part-all : (x : List Float) (k : ℕ) → length x ≡ k → part x 0 k ≡ x
+unfolding part
+part-all x k e = sym (tab-is nan k (λ i. item x (0 + i)) x e (λ i h. ap (item x) (sym (zero-add i))))
+
+pub square-le8 : (n : ℕ) → n ≤ 8 → n * n ≤ 64
+square-le8 n h = mul-le-mul {n₁ = n} {m₁ = n} {n₂ = 8} {m₂ = 8} h h
+
+-- what was stored in slot 0 is read back from it
+pub unit-read : {k : ℕ} (x : Float) (n : ℕ) (w w1 out : List Float) → Room n w → k ≡ n * n → w1 ≡ store w 0 (diagonalM n x) → out ≡ part w1 (256 * 0) k → out ≡ diagonalM n x
+unfolding store
+unit-read x n w w1 out r size e f =
+    f ∙ rw (e, size) (part-put w (256 * 0) (diagonalM n x) (n * n) (length-diagonalM n x) (omega (arith, square-le n (r .order), r .space)))
+
+-- ---- the answer, from an outcome
+
+pub answered-done : (c : Condition) (given : Outcome) (s : ℕ) (p q r : Float) → given ≡ Done s → Rated c p q r → Conditioned (rated c (reported given)) (Done s) p q r
+unfolding outcome exit
+answered-done c given s p q r e R = rw e (record { outcome = refl; ratios = R .ratios; derivatives = R .derivatives; exponentials = R .exponentials })
+
+pub answered-none : (c : Condition) (given o : Outcome) (y : Refusal) (p q r : Float) → given ≡ Refused y → reported o ≡ numbered y → p ≡ +zero → q ≡ +zero → r ≡ +zero
+    → Conditioned (rated c (reported given)) o p q r
+unfolding outcome exit
+answered-none c given o y p q r e k ep eq er =
+    let (i, j, l, n) = as-refused y in
+    rw (e, n) (record { outcome = k ∙ n; ratios = ep; derivatives = eq; exponentials = er })
+
+-- ---- the unit direction, the derivative in it, and the answer
+
+module _ (f : Format) (n : ℕ) (small : n ≤ 16) (a w w1 w2 e x x′ d d′ : List Float) (given o : Outcome) (p q r : Float) (e1 : w1 ≡ store w 0 (unitDirection f n)) (ee : e ≡ unitDirection f n)
+    (W : Written (frechetExpM f n a e) given x x′ d d′ w1 w2) where
+  pub condition-only : Only (λ s. ltb s 32) w w2
+  unfolding unitDirection
+  condition-only = only-trans (rw e1 (only-store (λ s. ltb s 32) w 0 _ refl (rw length-diagonalM (square-le n small)))) (W .only)
+
+  pub condition-steps : Conditioned (rated (conditionOf f (frobenius f n x′) (frobenius f n d′)) (reported given)) o p q r → Conditioned (condExpM f n a) o p q r
+  unfolding condExpM conditioned outcome exit
+  condition-steps C = go (frechetExpM f n a (unitDirection f n)) (W′ .outcome) (W′ .value) (W′ .derivative)
+    where
+      W′ : Written (frechetExpM f n a (unitDirection f n)) given x x′ d d′ w1 w2
+      W′ = rw ee at W
+
+      go : (z : Result Both) → reported given ≡ outcome z → x′ ≡ exit (λ (b : Both). b .value) z x → d′ ≡ exit (λ (b : Both). b .derivative) z d → Conditioned (conditioned f n z) o p q r
+      go (refused k i j) t u v = rw t at C
+      go (done s b) t u v = rw (t, u, v) at C
+
+pub late-condExpM : (f : Format) (n : ℕ) (a : List Float) → Late (condExpM f n a)
+unfolding condExpM conditioned
+late-condExpM f n a = go (frechetExpM f n a (unitDirection f n)) (late-frechetExpM f n a (unitDirection f n))
+  where
+    go : (z : Result Both) → Late z → Late (conditioned f n z)
+    go (refused k i j) l = l
+    go (done s b) l = tt
+
+-- ---- the call
+
+module _ (P : Profile) (c : Call) (q : Question) (h : found q ≡ asked P c) (o : Outcome) (x : Result Condition) (p d e : Float) where
+  -- a question refuses: +0 three times
+  pub condition-refused : (y : Refusal) → q ≡ No y → reported o ≡ numbered y → p ≡ +zero → d ≡ +zero → e ≡ +zero → Conditioned (answer P c x) o p d e
+  condition-refused y t k ep ed ee = record {
+    outcome = k ∙ sym (outcome-no P c x q h y t);
+    ratios = ep ∙ sym (exit-no P c x q h y t (λ (z : Condition). z .ratio) +zero);
+    derivatives = ed ∙ sym (exit-no P c x q h y t (λ (z : Condition). z .derivativeNorm) +zero);
+    exponentials = ee ∙ sym (exit-no P c x q h y t (λ (z : Condition). z .exponentialNorm) +zero);
+  }
+
+  -- none does
+  pub condition-passed : q ≡ Passed → Conditioned x o p d e → Conditioned (answer P c x) o p d e
+  condition-passed t C = rw (answer-passed P c x q h t) C
+
+  pub workspace-passed : (clears : Bool) (w w1 w2 : List Float) → q ≡ Passed → Late x → 8192 ≤ length w → Only (λ s. ltb s 32) w w1 → w2 ≡ cond clears (cleared w1) w1
+      → cond clears w2 (workspace (answer P c x) w2) ≡ workspace (answer P c x) w
+  workspace-passed clears w w1 w2 t l room only v = rw (answer-passed P c x q h t) (late-where clears x w w1 w2 l v (cleared-only w w1 room only))

@@ -1,0 +1,201 @@
+-- Laws of a run of the exponential in a workspace: a term of the Padé sums, a power, and the quotient or the numerator in its place. Assumes nothing.
+use mathlib.Core.Path.{_≡_, refl, sym, ap, _∙_, subst}
+use mathlib.Core.List.{List, [], _∷_}
+use mathlib.Core.Bool.{Bool}
+use Prim.Native.Nat.{ℕ, zero, suc, _+_, _-_, _*_, _≤_}
+use native.Mathlib.Numerals.{add-one}
+use native.Mathlib.Omega.{arith}
+use lib.Dec.{lit<}
+use lib.ListN.{length, take, drop, length-drop}
+use lib.Seq.{take-all}
+use lib.Ieee.{Float, Format, add, mul}
+use borrow.Author.Tests.{eq-eqb, ne-eqb}
+use Rattle.lu_factoring.specs.declared.LuOutcome.{LuOutcome}
+use Rattle.lu_factoring.specs.declared.LuOutcome.the-variants.{Factored, Singular}
+use Rattle.arithmetic_floats.specs.Float.{+zero, inversePowerOfTwo}
+use Rattle.arithmetic_matrices.specs.Matrix.{at, item, part}
+use Rattle.arithmetic_matrices.specs.Product.{zeroM, dot, accumulateM, identityM, scaleM, squared, mulM}
+use Rattle.arithmetic_matrices.specs.Workspace.{Room, slot, store, member, Squared}
+use Rattle.arithmetic_matrices.proofs.MatrixLaws.{grid-is, at-grid, square-le}
+use Rattle.arithmetic_matrices.proofs.PartLaws.{lent}
+use Rattle.arithmetic_matrices.proofs.ProductLaws.{length-zeroM, at-tab, length-accumulateM, dot-more}
+use Rattle.arithmetic_matrices.proofs.Slots.{only-trans, only-more, length-slot, slot-only, only-refl}
+use Rattle.arithmetic_matrices.proofs.States.{held, Held, listed, State, start, step-identity, step-zero, step-accumulate, step-call, state-listed, holds-as, held-at, member-among, step-scale, step-copy-in, step-copy, step-mult, Holds}
+use Rattle.arithmetic_matrices.specs.Norm.{norm1}
+use Rattle.arithmetic_questions.proofs.OutputLaws.{Late}
+use Rattle.lu_factoring.specs.Lu.{luOutcome}
+use Rattle.lu_factoring.specs.Solve.{standIn, divided, quotient}
+use Rattle.lu_factoring.proofs.DivisionLaws.{divided-slot, divided-only}
+use Rattle.functions_exponential.specs.Powers.{expM}
+use Rattle.functions_exponential.proofs.HalvingLaws.{halvings-late}
+use Rattle.functions_exponential.specs.Exponential.{coefficient, nextCoefficient, nextPower, power, combinationTo, flipped, flip, Raised, Summed, Quotient, Approximated, Exponentiated, numerator, denominator, combination, exponential, pade, scaled}
+
+-- ---- one term more
+
+pub coefficient-more : (f : Format) (k : ℕ) → coefficient f (k + 1) ≡ nextCoefficient f k (coefficient f k)
+unfolding coefficient
+coefficient-more f k = rw add-one refl
+
+pub power-more : (f : Format) (n : ℕ) (a : List Float) (k : ℕ) → nextPower f n k a (power f n a k) ≡ power f n a (k + 1)
+unfolding nextPower power
+power-more f n a zero = refl
+power-more f n a (suc k) = let e : suc (suc k) ≡ suc k + 1 = omega arith in rw (ne-eqb (suc k) 0 (λ z. omega arith)) (ap (power f n a) e)
+
+pub combination-none : (f : Format) (n : ℕ) (c : ℕ → Float) (a : List Float) → zeroM n ≡ combinationTo f n c a 0
+unfolding combinationTo zeroM dot
+combination-none f n c a = grid-is n n _ (zeroM n) (length-zeroM n) (λ i j p q. at-tab n (λ k. +zero) i j p q)
+
+pub combination-more : (f : Format) (n : ℕ) (c : ℕ → Float) (a : List Float) (k : ℕ) → accumulateM f n (c k) (power f n a k) (combinationTo f n c a k) ≡ combinationTo f n c a (k + 1)
+unfolding combinationTo accumulateM at
+combination-more f n c a k =
+    grid-is n n _ (accumulateM f n (c k) (power f n a k) (combinationTo f n c a k)) (length-accumulateM f n (c k) (power f n a k) (combinationTo f n c a k))
+    (λ i j p q.
+    at-tab n (λ m. add f (item (combinationTo f n c a k) m) (mul f (c k) (item (power f n a k) m))) i j p q
+    ∙ ap (λ (x : Float). add f x (mul f (c k) (at n (power f n a k) i j))) (at-grid n n (λ i j. dot f k c (λ m. at n (power f n a m) i j)) i j p q)
+    ∙ sym (dot-more f k c (λ m. at n (power f n a m) i j)))
+
+-- a part that begins at o
+pub take-part : (w : List Float) (o k : ℕ) → o + k ≤ length w → take k (drop o w) ≡ part w o k
+take-part w o k h = let e : k ≡ o + k - o = omega arith in ap (λ (m : ℕ). take m (drop o w)) e ∙ lent w o k h
+
+take-rest : (w : List Float) (o : ℕ) → take (length w - o) (drop o w) ≡ drop o w
+take-rest w o = take-all (length w - o) (drop o w) (omega (arith, length-drop o w))
+
+pub rest-length : (w : List Float) (o : ℕ) → length (take (length w - o) (drop o w)) ≡ length w - o
+rest-length w o = ap length (take-rest w o) ∙ length-drop o w
+
+-- the part that `quotient_or_numerator` returns
+pub quotient-part : {count : ℕ} (n : ℕ) (w : List Float) (o : LuOutcome) → count ≡ n * n → Room n w
+    → take count (standIn o (take (length w - 1280) (drop 1280 w)) (take (length w - 512) (drop 512 w))) ≡ standIn o (slot n w 5) (slot n w 2)
+unfolding slot
+quotient-part n w Factored e r = rw (e, take-rest) (take-part w 1280 (n * n) (omega (arith, square-le n (r .order), r .space)))
+quotient-part n w (Singular k) e r = rw (e, take-rest) (take-part w 512 (n * n) (omega (arith, square-le n (r .order), r .space)))
+
+-- ---- the Padé sums, term by term
+
+-- what the slots hold once the terms below k are added
+abbrev pub sums : Format → ℕ → List Float → ℕ → List (ℕ × Held)
+sums f n a k = (0, held n a) ∷ (1, held n (power f n a k)) ∷ (2, held n (combinationTo f n (coefficient f) a k)) ∷ (3, held n (combinationTo f n (flipped f) a k)) ∷ []
+
+abbrev pub summing : ℕ → Bool
+summing = member (1 ∷ 2 ∷ 3 ∷ 4 ∷ [])
+
+-- the slots of the whole run
+abbrev all : ℕ → Bool
+all = member (0 ∷ 1 ∷ 2 ∷ 3 ∷ 4 ∷ 5 ∷ [])
+
+-- the part that `divide` factors
+slot-three : (n : ℕ) (w : List Float) → part w 768 (n * n) ≡ slot n w 3
+unfolding slot
+slot-three n w = refl
+
+-- what stands in for a stand-in
+twice : {A : Type 0} (o : LuOutcome) (q b : A) → standIn o (standIn o q b) b ≡ standIn o q b
+twice Factored q b = refl
+twice (Singular k) q b = refl
+
+pub length-standIn : {k : ℕ} (o : LuOutcome) (q b : List Float) → length q ≡ k → length b ≡ k → length (standIn o q b) ≡ k
+length-standIn Factored q b p r = p
+length-standIn (Singular k) q b p r = r
+
+module _ (f : Format) (n : ℕ) (w₀ : List Float) (r : Room n w₀) where
+  -- the power after power 0, and after any other
+  pub raise-first : (k : ℕ) (w1 : List Float) → k ≡ 0 → w1 ≡ store w₀ 1 (slot n w₀ 0) → Raised f n k w₀ w1
+  unfolding nextPower
+  raise-first k w1 h e =
+      let s1 = step-copy n (r .order) 0 1 (start (member (1 ∷ 4 ∷ [])) n r) e refl refl refl in
+      record { raised = held-at 1 n s1 refl ∙ rw (eq-eqb k 0 h); only = s1 .only }
+
+  pub raise-more : (k : ℕ) (w1 w2 : List Float) → (k ≡ 0 → ⊥) → w1 ≡ store w₀ 4 (mulM f n (slot n w₀ 1) (slot n w₀ 0)) → w2 ≡ store w1 1 (slot n w1 4) → Raised f n k w₀ w2
+  unfolding nextPower
+  raise-more k w1 w2 h e1 e2 =
+      let s1 = step-mult n (r .order) f 1 0 4 (start (member (1 ∷ 4 ∷ [])) n r) e1 refl refl refl refl in
+      let s2 = step-copy n (r .order) 4 1 s1 e2 refl refl refl in
+      record { raised = held-at 1 n s2 refl ∙ rw (ne-eqb k 0 h); only = s2 .only }
+
+  pub sums-none : (w1 w2 w3 : List Float) → w1 ≡ store w₀ 1 (identityM n) → w2 ≡ store w1 2 (zeroM n) → w3 ≡ store w2 3 (zeroM n) → State summing w₀ w3 (listed (sums f n (slot n w₀ 0) 0))
+  unfolding power
+  sums-none w1 w2 w3 e1 e2 e3 =
+      let a = slot n w₀ 0 in
+      let s0 = start summing n r in
+      let s1 = step-identity n (r .order) 1 s0 e1 refl refl in
+      let s2 = step-zero n (r .order) 2 s1 e2 refl refl in
+      let s3 = step-zero n (r .order) 3 s2 e3 refl refl in
+      state-listed (sums f n a 0) s3 (s3 .holds 0, (s3 .holds 1, (holds-as (s3 .holds 2) (combination-none f n (coefficient f) a), (holds-as (s3 .holds 3) (combination-none f n (flipped f) a), tt))))
+
+  pub sums-more : (a : List Float) (k : ℕ) (w w1 w2 w3 : List Float) (c d : Float) → State summing w₀ w (listed (sums f n a k)) → c ≡ coefficient f k → d ≡ flip k c
+      → w1 ≡ store w 2 (accumulateM f n c (slot n w 1) (slot n w 2)) → w2 ≡ store w1 3 (accumulateM f n d (slot n w1 1) (slot n w1 3)) → Raised f n k w2 w3 → State summing w₀ w3 (listed (sums f n a (k + 1)))
+  sums-more a k w w1 w2 w3 c d H ec ed e1 e2 R =
+      let s1 = step-accumulate n (r .order) f c 2 1 H e1 refl refl refl refl in
+      let s2 = step-accumulate n (r .order) f d 3 1 s1 e2 refl refl refl refl in
+      let s3 = step-call (1 ∷ 4 ∷ []) s2 (R .only) (member-among summing (1 ∷ 4 ∷ []) refl) in
+      let next : slot n w3 1 ≡ power f n a (k + 1) = R .raised ∙ (λ i. nextPower f n k (held-at 0 n s2 refl i) (held-at 1 n s2 refl i)) ∙ power-more f n a k in
+      let ef : d ≡ flipped f k = unfold flipped in ed ∙ ap (flip k) ec in
+      let h1 : Holds w3 1 (held n (power f n a (k + 1))) = record { sized = ap length (sym next) ∙ length-slot n w3 1; within = omega (arith, square-le n (r .order)); reads = next } in
+      let h2 = holds-as (s3 .holds 2) (ap (λ (x : Float). accumulateM f n x (power f n a k) (combinationTo f n (coefficient f) a k)) ec ∙ combination-more f n (coefficient f) a k) in
+      let h3 = holds-as (s3 .holds 3) (ap (λ (x : Float). accumulateM f n x (power f n a k) (combinationTo f n (flipped f) a k)) ef ∙ combination-more f n (flipped f) a k) in
+      state-listed (sums f n a (k + 1)) s3 (s3 .holds 0, (h1, (h2, (h3, tt))))
+
+  pub sums-all : (w : List Float) → State summing w₀ w (listed (sums f n (slot n w₀ 0) 14)) → Summed f n w₀ w
+  sums-all w H = record {
+    above = unfold numerator combination in held-at 2 n H refl;
+    under = unfold denominator combination in held-at 3 n H refl;
+    only = H .only;
+  }
+
+  -- the sums begin at w, and end at w′
+  pub sums-begin : (w : List Float) → State summing w₀ w (listed (sums f n (slot n w₀ 0) 0)) → State summing w w (listed (sums f n (slot n w 0) 0))
+  sums-begin w H =
+      subst (λ (a : List Float). State summing w w (listed (sums f n a 0))) (sym (held-at 0 n H refl)) (record { space = H .space; only = only-refl summing w; holds = H .holds })
+
+  pub sums-end : (w w′ : List Float) → State summing w₀ w (listed (sums f n (slot n w₀ 0) 0)) → Summed f n w w′ → Summed f n w₀ w′
+  sums-end w w′ H S = record {
+    above = S .above ∙ ap (numerator f n) (held-at 0 n H refl);
+    under = S .under ∙ ap (denominator f n) (held-at 0 n H refl);
+    only = only-trans (H .only) (S .only);
+  }
+
+  -- ---- the quotient, or the numerator in its place
+
+  -- the numerator is copied to slot 5 and divided there by what stands in slot 3
+  pub quotient-beside : (w1 w2 : List Float) (o : LuOutcome) → w1 ≡ store w₀ 5 (slot n w₀ 2) → o ≡ luOutcome f n (part w1 768 (n * n)) → w2 ≡ divided f n n 768 1280 w1 o → Quotient f n w₀ w2 o
+  quotient-beside w1 w2 o e1 eo e2 =
+      let both = member (3 ∷ 5 ∷ []) in
+      let s1 = step-copy n (r .order) 2 5 (start both n r) e1 refl refl refl in
+      let r1 : Room n w1 = record { order = r .order; space = s1 .space } in
+      let three : slot n w1 3 ≡ slot n w₀ 3 = held-at 3 n s1 refl in
+      let five : slot n w1 5 ≡ slot n w₀ 2 = held-at 5 n s1 refl in
+      record {
+        outcome = eo ∙ ap (luOutcome f n) (slot-three n w1 ∙ three);
+        divided = ap (λ (w : List Float). slot n w 5) e2 ∙ divided-slot f n 3 5 w1 r1 (lit< tt) o refl ∙ (λ i. standIn o (quotient f n (three i) (five i)) (five i));
+        only = only-trans (s1 .only) (rw e2 (divided-only f n 3 5 w1 r1 (lit< tt) o));
+      }
+
+  -- the sums, their quotient, and the stand-in
+  pub pade-steps : (w1 w2 w3 : List Float) (o : LuOutcome) → Summed f n w₀ w1 → Quotient f n w1 w2 o → w3 ≡ store w2 0 (standIn o (slot n w2 5) (slot n w2 2)) → Approximated f n w₀ w3
+  unfolding pade
+  pade-steps w1 w2 w3 o P Q e3 =
+      let A = slot n w₀ 0 in
+      let s1 = step-call (1 ∷ 2 ∷ 3 ∷ 4 ∷ []) (start all n r) (P .only) (member-among all (1 ∷ 2 ∷ 3 ∷ 4 ∷ []) refl) in
+      let s2 = step-call (3 ∷ 5 ∷ []) s1 (Q .only) (member-among all (3 ∷ 5 ∷ []) refl) in
+      let above : slot n w2 2 ≡ numerator f n A = slot-only n (member (3 ∷ 5 ∷ [])) w1 w2 2 1 (Q .only) (omega (arith, square-le n (r .order))) refl ∙ P .above in
+      let eo : o ≡ luOutcome f n (denominator f n A) = Q .outcome ∙ ap (luOutcome f n) (P .under) in
+      let q : slot n w2 5 ≡ standIn o (quotient f n (denominator f n A) (numerator f n A)) (numerator f n A) = Q .divided ∙ (λ i. standIn o (quotient f n (P .under i) (P .above i)) (P .above i)) in
+      let x : standIn o (slot n w2 5) (slot n w2 2) ≡ standIn (luOutcome f n (denominator f n A)) (quotient f n (denominator f n A) (numerator f n A)) (numerator f n A) =
+      (λ i. standIn o (q i) (above i)) ∙ twice o (quotient f n (denominator f n A) (numerator f n A)) (numerator f n A) ∙ ap (λ (z : LuOutcome). standIn z (quotient f n (denominator f n A) (numerator f n A)) (numerator f n A)) eo in
+      let s3 = step-copy-in n (r .order) 0 (standIn o (slot n w2 5) (slot n w2 2)) s2 e3 (length-standIn o (slot n w2 5) (slot n w2 2) (length-slot n w2 5) (length-slot n w2 2)) refl refl in
+      record { result = held-at 0 n s3 refl ∙ x; only = s3 .only }
+
+  -- scaling, the quotient, and the squarings
+  pub exponential-steps : (s : ℕ) (w1 w2 w3 : List Float) → w1 ≡ store w₀ 0 (scaleM f n (inversePowerOfTwo s) (slot n w₀ 0)) → Approximated f n w1 w2 → Squared f n w2 0 4 s w3 → Exponentiated f n s w₀ w3
+  unfolding exponential scaled
+  exponential-steps s w1 w2 w3 e1 P Q =
+      let s1 = step-scale n (r .order) f (inversePowerOfTwo s) 0 (start all n r) e1 refl refl refl in
+      record {
+        result = Q .power ∙ ap (squared f n s) (P .result ∙ ap (pade f n) (held-at 0 n s1 refl));
+        only = only-trans (s1 .only) (only-trans (P .only) (only-more (member-among all (0 ∷ 4 ∷ []) refl) (Q .only)));
+      }
+
+pub late-expM : (f : Format) (n : ℕ) (a : List Float) → Late (expM f n a)
+unfolding expM
+late-expM f n a = halvings-late (norm1 f n a) (λ s. exponential f n s a)

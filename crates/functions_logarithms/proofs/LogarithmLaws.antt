@@ -1,0 +1,199 @@
+-- Laws of the logarithm in a workspace: the roots, the series, and both. Assumes nothing.
+use Prim.Native.Nat.{ℕ, suc, _+_, _≤_, _<_}
+use native.Mathlib.Omega.{arith}
+use native.Mathlib.Numerals.{add-one}
+use mathlib.Core.Path.{_≡_, refl, sym, ap, _∙_}
+use mathlib.Core.Bool.{Bool, true, false, cond}
+use mathlib.Core.List.{List, [], _∷_}
+use lib.Ieee.{Float, Format, le, mul}
+use Rattle.arithmetic_floats.specs.Float.{epsilon, powerOfTwo}
+use Rattle.arithmetic_matrices.specs.Product.{mulM, scaleM, timesM, addM, zeroM, minusIdentityM}
+use Rattle.arithmetic_matrices.specs.Norm.{frobenius}
+use Rattle.arithmetic_matrices.specs.Workspace.{Room, slot, store, member, Only}
+use Rattle.arithmetic_questions.specs.Result.{Result, done, refused, _>>=_, outcome, exit}
+use Rattle.arithmetic_questions.specs.Outputs.{Replaced}
+use Rattle.arithmetic_questions.specs.declared.answer.Outcome.the-variants as outcomes
+use Rattle.arithmetic_questions.specs.declared.answer.Refusal.the-variants.{NotConverged}
+use Rattle.arithmetic_matrices.proofs.MatrixLaws.{square-le}
+use Rattle.arithmetic_matrices.proofs.ProductLaws.{length-scaleM}
+use Rattle.arithmetic_matrices.proofs.Slots.{only-refl, only-trans, only-more, slot-only, length-slot}
+use Rattle.arithmetic_matrices.proofs.States.{start, step-mult, step-copy, step-copy-in, step-call, step-times, step-add, step-zero, step-minus-identity, held-at, member-among}
+use Rattle.functions_exponential.specs.Iterate.{Step, running, stopped, after, verdict, ended}
+use Rattle.functions_exponential.specs.Roots.{newtonRoot}
+use Rattle.functions_exponential.specs.Logarithm.{isFar, Rooted, rooted, rootingStep, rooting, Series, seriesStep, seriesCoefficient, series, logarithm}
+use Rattle.functions_roots.specs.Passes.{asStep, tested, answered, OnePass, Passes, NewtonRoot}
+use Rattle.functions_logarithms.specs.Rooting.{rootedAs, asRooting, RootingPass, asTaken, RootsTaken, seriesIn, TermsAdded, SeriesSummed, LogarithmNear}
+use Rattle.functions_roots.specs.declared.pass.Pass.{Pass}
+use Rattle.functions_roots.specs.declared.pass.Pass.the-variants.{Running, Stopped, Failed}
+use Rattle.functions_logarithms.specs.declared.logarithm.Roots.{Roots}
+use Rattle.functions_logarithms.specs.declared.logarithm.Roots.the-variants.{Taken, Refused}
+use Rattle.functions_roots.proofs.IterateLaws.{goes-on, stops, fails, runs-out}
+use Rattle.functions_roots.proofs.PassLaws.{step-tested, answers-ended, fails-ended}
+
+-- the slots that the logarithm changes, and those of the series
+abbrev pub used : List ℕ
+used = 0 ∷ 1 ∷ 2 ∷ 3 ∷ []
+
+abbrev pub summing : List ℕ
+summing = 1 ∷ 2 ∷ 3 ∷ []
+
+-- ---- a pass of the rooting
+
+module _ (f : Format) (n : ℕ) (w₀ : List Float) (r : Room n w₀) where
+  pub near-stopped : isFar f n (slot n w₀ 0) ≡ false → RootingPass f n Stopped w₀ w₀
+  unfolding rootingStep
+  near-stopped h = record {
+    step = λ k. ap (λ (b : Bool). cond b (rooted k (newtonRoot f n (slot n w₀ 0))) (stopped (rootedAs (slot n w₀ 0) k))) (sym h);
+    only = only-refl (member used) w₀;
+  }
+
+  module _ (w1 : List Float) (p : Pass) (far : isFar f n (slot n w₀ 0) ≡ true) (N : NewtonRoot f n p w₀ w1) where
+    -- the step is what the root gives
+    rooted-as : (k : ℕ) → rooted k (ended (asStep p (slot n w1 1))) ≡ rootingStep f n (rootedAs (slot n w₀ 0) k)
+    unfolding rootingStep newtonRoot
+    rooted-as k =
+        ap (λ (z : Step (List Float)). rooted k (ended z)) (N .step)
+        ∙ ap (λ (b : Bool). cond b (rooted k (newtonRoot f n (slot n w₀ 0))) (stopped (rootedAs (slot n w₀ 0) k))) (sym far)
+
+    wide : Only (member used) w₀ w1
+    wide = only-more (member-among (member used) summing refl) (N .only)
+
+    pub far-failed : answered p ≡ false → RootingPass f n Failed w₀ w1
+    far-failed e = record { step = λ k. ap (rooted k) (fails-ended p (slot n w1 1) e) ∙ rooted-as k; only = wide }
+
+    pub far-rooted : (w2 : List Float) → answered p ≡ true → w2 ≡ store w1 0 (slot n w1 1) → RootingPass f n Running w₀ w2
+    far-rooted w2 e e2 =
+        let s1 = step-call summing (start (member used) n r) (N .only) (member-among (member used) summing refl) in
+        let s2 = step-copy-in n (r .order) 0 (slot n w1 1) s1 e2 (length-slot n w1 1) refl refl in
+        record {
+          step = λ k. ap (λ (x : List Float). running (rootedAs x (suc k))) (held-at 0 n s2 refl) ∙ ap (rooted k) (answers-ended p (slot n w1 1) e) ∙ rooted-as k;
+          only = s2 .only;
+        }
+
+-- ---- all roots
+
+-- k roots are taken, and the rooting goes on
+pub record Rooting (f : Format) (n : ℕ) (w₀ w : List Float) (k : ℕ) : Type 0 where
+  pub state : rooting f n (slot n w₀ 0) k ≡ running (rootedAs (slot n w 0) k)
+  pub only : Only (member used) w₀ w
+
+pub rooting-none : (f : Format) (n : ℕ) (w₀ : List Float) → Rooting f n w₀ w₀ 0
+unfolding rooting after
+rooting-none f n w₀ = record { state = refl; only = only-refl (member used) w₀ }
+
+module _ (f : Format) (n : ℕ) (w₀ w w′ : List Float) (k : ℕ) (p : Pass) (H : Rooting f n w₀ w k) (P : RootingPass f n p w w′) where
+  told : (q : Pass) → p ≡ q → rootingStep f n (rootedAs (slot n w 0) k) ≡ asRooting q (slot n w′ 0) k
+  told q e = sym (P .step k) ∙ ap (λ (z : Pass). asRooting z (slot n w′ 0) k) e
+
+  changed : Only (member used) w₀ w′
+  changed = only-trans (H .only) (P .only)
+
+  pub rooting-more : p ≡ Running → Rooting f n w₀ w′ (k + 1)
+  unfolding rooting
+  rooting-more e = record {
+    state =
+        goes-on (λ _. rootingStep f n) (rootedAs (slot n w₀ 0) 0) (rootedAs (slot n w 0) k) k (H .state) (rootedAs (slot n w′ 0) (suc k)) (told Running e)
+        ∙ ap (λ (m : ℕ). running (rootedAs (slot n w′ 0) m)) (sym (add-one k));
+    only = changed;
+  }
+
+  pub rooting-stops : k < 100 → p ≡ Stopped → RootsTaken f n (Taken k) w₀ w′
+  unfolding rooting
+  rooting-stops h e = record {
+    taken = sym (ap ended (stops (λ _. rootingStep f n) (rootedAs (slot n w₀ 0) 0) (rootedAs (slot n w 0) k) k (H .state) (rootedAs (slot n w′ 0) k) 100 h (told Stopped e)));
+    few = omega arith;
+    only = changed;
+  }
+
+  pub rooting-fails : k < 100 → p ≡ Failed → RootsTaken f n Refused w₀ w′
+  unfolding rooting
+  rooting-fails h e = record {
+    taken = sym (ap ended (fails (λ _. rootingStep f n) (rootedAs (slot n w₀ 0) 0) (rootedAs (slot n w 0) k) k (H .state) 100 h (told Failed e)));
+    few = omega arith;
+    only = changed;
+  }
+
+pub rooting-out : (f : Format) (n : ℕ) (w₀ w : List Float) (k : ℕ) → Rooting f n w₀ w k → k ≤ 100 → 100 ≤ k → RootsTaken f n (Taken k) w₀ w
+unfolding rooting
+rooting-out f n w₀ w k H h l = record {
+  taken = sym (ap ended (runs-out (λ _. rootingStep f n) (rootedAs (slot n w₀ 0) 0) (rootedAs (slot n w 0) k) k (H .state) 100 h l));
+  few = h;
+  only = H .only;
+}
+
+-- ---- the series
+
+module _ (f : Format) (n : ℕ) (w₀ : List Float) (r : Room n w₀) where
+  pub term-added : (k : ℕ) (w1 w2 w3 w4 : List Float) (d : Float) (b : Bool) → w1 ≡ store w₀ 3 (mulM f n (slot n w₀ 1) (slot n w₀ 0)) → w2 ≡ store w1 1 (slot n w1 3) → d ≡ seriesCoefficient f (k + 2)
+      → w3 ≡ store w2 3 (timesM f n d (slot n w2 1)) → w4 ≡ store w3 2 (addM f n (slot n w3 2) (slot n w3 3)) → b ≡ le (frobenius f n (slot n w4 3)) (mul f (epsilon f) (frobenius f n (slot n w4 2)))
+      → OnePass (seriesStep f n (slot n w₀ 0) k) (seriesIn n) summing (tested b) w₀ w4
+  unfolding seriesStep
+  term-added k w1 w2 w3 w4 d b e1 e2 ed e3 e4 eb =
+      let p = mulM f n (slot n w₀ 1) (slot n w₀ 0) in
+      let s1 = step-mult n (r .order) f 1 0 3 (start (member summing) n r) e1 refl refl refl refl in
+      let s2 = step-copy n (r .order) 3 1 s1 e2 refl refl refl in
+      let s3 = step-times n (r .order) f d 1 3 s2 e3 refl refl refl in
+      let s4 = step-add n (r .order) f 2 3 s3 e4 refl refl refl refl in
+      let made : Float → Step Series = λ c. verdict (le (frobenius f n (timesM f n c p)) (mul f (epsilon f) (frobenius f n (addM f n (slot n w₀ 2) (timesM f n c p))))) (record { power = p; sum = addM f n (slot n w₀ 2) (timesM f n c p) }) in
+      record {
+        step =
+            step-tested b (seriesIn n w4)
+            ∙ (λ i. verdict (eb i) (record { power = held-at 1 n s4 refl i; sum = held-at 2 n s4 refl i }))
+            ∙ (λ i. verdict (le (frobenius f n (held-at 3 n s4 refl i)) (mul f (epsilon f) (frobenius f n (held-at 2 n s4 refl i)))) (record { power = p; sum = addM f n (slot n w₀ 2) (timesM f n d p) }))
+            ∙ ap made ed;
+        only = s4 .only;
+      }
+
+  -- a pass on the way is a step for the matrix with which the passes began
+  pub term-same : (k : ℕ) (w w′ : List Float) (p : Pass) → Only (member summing) w₀ w → OnePass (seriesStep f n (slot n w 0) k) (seriesIn n) summing p w w′ → OnePass (seriesStep f n (slot n w₀ 0) k) (seriesIn n) summing p w w′
+  term-same k w w′ p o P = rw (slot-only n (member summing) w₀ w 0 1 o (omega (arith, square-le n (r .order))) refl) at P
+
+  -- what the passes answered, as the terms that they added
+  pub terms-added : (q : Pass) (w : List Float) → ended (asStep q (seriesIn n w)) ≡ done 0 (seriesIn n w) → Passes (seriesStep f n (slot n w₀ 0)) 59 (seriesIn n) summing q w₀ w → TermsAdded f n w₀ w
+  terms-added q w e P = record { terms = sym e ∙ ap ended (P .step); only = P .only }
+
+  pub series-summed : (w1 w2 w3 w4 : List Float) → w1 ≡ store w₀ 1 (slot n w₀ 0) → w2 ≡ store w1 2 (zeroM n) → w3 ≡ store w2 2 (addM f n (slot n w2 2) (slot n w2 1)) → TermsAdded f n w3 w4 → SeriesSummed f n w₀ w4
+  unfolding series
+  series-summed w1 w2 w3 w4 e1 e2 e3 T =
+      let s1 = step-copy n (r .order) 0 1 (start (member summing) n r) e1 refl refl refl in
+      let s2 = step-zero n (r .order) 2 s1 e2 refl refl in
+      let s3 = step-add n (r .order) f 2 1 s2 e3 refl refl refl refl in
+      record {
+        terms = T .terms ∙ (λ i. ended (after (seriesStep f n (held-at 0 n s3 refl i)) (record { power = held-at 1 n s3 refl i; sum = held-at 2 n s3 refl i }) 59));
+        only = only-trans (s3 .only) (T .only);
+      }
+
+  -- ---- the logarithm
+
+  pub near-steps : (k : ℕ) (w1 w2 w3 w4 : List Float) (t : Float) → w1 ≡ store w₀ 0 (minusIdentityM f n (slot n w₀ 0)) → SeriesSummed f n w1 w2 → t ≡ powerOfTwo k → w3 ≡ store w2 2 (scaleM f n t (slot n w2 2))
+      → w4 ≡ store w3 0 (slot n w3 2) → LogarithmNear f n k w₀ w4
+  unfolding _>>=_
+  near-steps k w1 w2 w3 w4 t e1 S et e3 e4 =
+      let s1 = step-minus-identity n (r .order) f 0 (start (member used) n r) e1 refl refl refl in
+      let s2 = step-call summing s1 (S .only) (member-among (member used) summing refl) in
+      let s3 = step-copy-in n (r .order) 2 (scaleM f n t (slot n w2 2)) s2 e3 (length-scaleM f n t (slot n w2 2)) refl refl in
+      let s4 = step-copy n (r .order) 2 0 s3 e4 refl refl refl in
+      record {
+        result =
+            (λ i. done 0 (held-at 0 n s4 refl i))
+            ∙ (λ i. done 0 (scaleM f n (et i) (slot n w2 2)))
+            ∙ ap (λ (z : Result Series). z >>= λ s. done 0 (scaleM f n (powerOfTwo k) (s .sum))) (S .terms ∙ ap (λ (x : List Float). ended (series f n x 59)) (held-at 0 n s1 refl));
+        only = s4 .only;
+      }
+
+  module _ (w1 : List Float) (o : Roots) (R : RootsTaken f n o w₀ w1) where
+    pub logarithm-done : (k : ℕ) (w2 : List Float) → o ≡ Taken k → LogarithmNear f n k w1 w2 → Replaced used n (logarithm f n (slot n w₀ 0)) (outcomes.Done 0) w₀ w2
+    unfolding logarithm _>>=_ outcome exit
+    logarithm-done k w2 e L =
+        let t : done 0 (rootedAs (slot n w1 0) k) ≡ ended (rooting f n (slot n w₀ 0) 100) = ap (λ (z : Roots). asTaken z (slot n w1 0)) (sym e) ∙ R .taken in
+        let x : done 0 (slot n w2 0) ≡ logarithm f n (slot n w₀ 0) =
+        L .result ∙ ap (λ (z : Result Rooted). z >>= λ v. ended (series f n (minusIdentityM f n (v .work)) 59) >>= λ s. done 0 (scaleM f n (powerOfTwo (v .roots)) (s .sum))) t in
+        record { outcome = ap outcome x; result = ap (λ (z : Result (List Float)). exit (λ v. v) z (slot n w2 0)) x; only = only-trans (R .only) (L .only) }
+
+    pub logarithm-refused : o ≡ Refused → Replaced used n (logarithm f n (slot n w₀ 0)) (outcomes.Refused NotConverged) w₀ w1
+    unfolding logarithm _>>=_ outcome exit
+    logarithm-refused e =
+        let t : refused 13 0 0 ≡ ended (rooting f n (slot n w₀ 0) 100) = ap (λ (z : Roots). asTaken z (slot n w1 0)) (sym e) ∙ R .taken in
+        let x : refused 13 0 0 ≡ logarithm f n (slot n w₀ 0) =
+        ap (λ (z : Result Rooted). z >>= λ v. ended (series f n (minusIdentityM f n (v .work)) 59) >>= λ s. done 0 (scaleM f n (powerOfTwo (v .roots)) (s .sum))) t in
+        record { outcome = ap outcome x; result = ap (λ (z : Result (List Float)). exit (λ v. v) z (slot n w1 0)) x; only = R .only }

@@ -1,0 +1,13 @@
+-- `log_step` meets its contract: the constant is 2^-52. Assumes nothing.
+use lib.Ieee.{ofBits}
+use Rattle.functions_exponential.specs.Derivatives.{logStep}
+use borrow.Author.Needs.{needs}
+use Rattle.functions_logarithms.proofs.log_derivative.log_step.Statement.{statement}
+use Rattle.functions_logarithms.proofs.log_derivative.log_step.Tie as tie
+
+returns : tie.Need-returns
+unfolding ofBits logStep
+returns c = let sqrt : tie.After-sqrt = search in sqrt .sqrt .ensures
+
+pub log-step-spec : {M : Type 1} → statement M
+log-step-spec = tie.close (tie.spec (λ c κs. search needs) returns)

@@ -1,0 +1,93 @@
+-- Laws of a loop over passes in a workspace, for every state that is read from it, and of a system in slots. Assumes nothing.
+use Prim.Native.Nat.{ℕ, _+_, _*_, _≤_, _<_}
+use mathlib.Core.Path.{_≡_, refl, sym, ap, _∙_}
+use mathlib.Core.Bool.{Bool, true, false, true≢false}
+use mathlib.Core.List.{List}
+use mathlib.Core.Option.{some}
+use lib.Dec.{eqb}
+use lib.Ieee.{Float, Format, sub}
+use Rattle.arithmetic_floats.specs.Root.{sqrtOf}
+use Rattle.arithmetic_matrices.specs.Matrix.{part, tab, item}
+use Rattle.arithmetic_matrices.specs.Norm.{sumOfSquares, frobenius, difference}
+use Rattle.arithmetic_questions.specs.Result.{done, refused}
+use Rattle.arithmetic_matrices.specs.Workspace.{Room, slot, member, Only}
+use Rattle.arithmetic_matrices.proofs.ProductLaws.{subM-parts}
+use Rattle.arithmetic_matrices.proofs.Slots.{only-refl, only-trans}
+use Rattle.lu_factoring.specs.declared.LuOutcome.{LuOutcome}
+use Rattle.lu_factoring.specs.declared.LuOutcome.the-variants.{Factored, Singular}
+use Rattle.lu_factoring.specs.Lu.{luOutcome}
+use Rattle.lu_factoring.specs.Solve.{divided, standIn, quotient, division, whereFactored}
+use Rattle.lu_factoring.proofs.DivisionLaws.{divided-slot, divided-only}
+use Rattle.functions_exponential.specs.Iterate.{Step, running, after, verdict, ended}
+use Rattle.functions_roots.specs.Passes.{asStep, tested, answered, OnePass, Passes, Quotient}
+use Rattle.functions_roots.specs.declared.pass.Pass.{Pass}
+use Rattle.functions_roots.specs.declared.pass.Pass.the-variants.{Running, Stopped, Failed}
+use Rattle.functions_roots.proofs.IterateLaws.{goes-on, stops, fails, runs-out}
+
+-- a pass that its test ends, as the definitions say it
+pub step-tested : {S : Type 0} (b : Bool) (x : S) → asStep (tested b) x ≡ verdict b x
+step-tested true x = refl
+step-tested false x = refl
+
+-- the norm of the difference of two slots, from the sum of the squares
+pub root-of-squares : (f : Format) (n : ℕ) (w : List Float) (a b : ℕ) (s : Float) → s ≡ sumOfSquares f (n * n) (tab (n * n) (λ i. sub f (item w (256 * a + i)) (item w (256 * b + i)))) → sqrtOf f s ≡ difference f n (slot n w a) (slot n w b)
+unfolding difference frobenius slot
+root-of-squares f n w a b s e = ap (sqrtOf f) e ∙ ap (λ (x : List Float). sqrtOf f (sumOfSquares f (n * n) x)) (sym (subM-parts f n w (256 * a) (256 * b)))
+
+-- what an iteration that has a result ends with, and one that failed
+pub answers-ended : {S : Type 0} (p : Pass) (x : S) → answered p ≡ true → done 0 x ≡ ended (asStep p x)
+answers-ended Running x e = refl
+answers-ended Stopped x e = refl
+answers-ended Failed x e = absurd (true≢false (sym e))
+
+pub fails-ended : {S : Type 0} (p : Pass) (x : S) → answered p ≡ false → refused 13 0 0 ≡ ended (asStep p x)
+fails-ended Running x e = absurd (true≢false e)
+fails-ended Stopped x e = absurd (true≢false e)
+fails-ended Failed x e = refl
+
+-- ---- the loop
+
+-- i passes are made, and the iteration goes on
+pub record Passing {S : Type 0} (g : ℕ → S → Step S) (read : List Float → S) (ss : List ℕ) (w₀ w : List Float) (i : ℕ) : Type 0 where
+  pub state : after g (read w₀) i ≡ running (read w)
+  pub only : Only (member ss) w₀ w
+
+module _ {S : Type 0} (g : ℕ → S → Step S) (read : List Float → S) (ss : List ℕ) (w₀ : List Float) where
+  pub passing-none : Passing g read ss w₀ w₀ 0
+  unfolding after
+  passing-none = record { state = refl; only = only-refl (member ss) w₀ }
+
+  module _ (w w′ : List Float) (i : ℕ) (p : Pass) (H : Passing g read ss w₀ w i) (P : OnePass (g i) read ss p w w′) where
+    told : (q : Pass) → p ≡ q → g i (read w) ≡ asStep q (read w′)
+    told q e = sym (P .step) ∙ ap (λ (z : Pass). asStep z (read w′)) e
+
+    all : Only (member ss) w₀ w′
+    all = only-trans (H .only) (P .only)
+
+    pub passing-more : p ≡ Running → Passing g read ss w₀ w′ (i + 1)
+    passing-more e = record { state = goes-on g (read w₀) (read w) i (H .state) (read w′) (told Running e); only = all }
+
+    pub passing-stops : (k : ℕ) → i < k → p ≡ Stopped → Passes g k read ss Stopped w₀ w′
+    passing-stops k h e = record { step = sym (stops g (read w₀) (read w) i (H .state) (read w′) k h (told Stopped e)); only = all }
+
+    pub passing-fails : (k : ℕ) → i < k → p ≡ Failed → Passes g k read ss Failed w₀ w′
+    passing-fails k h e = record { step = sym (fails g (read w₀) (read w) i (H .state) k h (told Failed e)); only = all }
+
+  pub passing-out : (w : List Float) (i k : ℕ) → Passing g read ss w₀ w i → i ≤ k → k ≤ i → Passes g k read ss Running w₀ w
+  passing-out w i k H h l = record { step = sym (runs-out g (read w₀) (read w) i (H .state) k h l); only = H .only }
+
+-- ---- a system: the matrix in slot 2, the right-hand matrix in slot x
+
+pub quotient-slot : (f : Format) (n x : ℕ) (w w′ : List Float) (o : LuOutcome) → Room n w → x < 32 → eqb 2 x ≡ false → o ≡ luOutcome f n (part w 512 (n * n)) → w′ ≡ divided f n n 512 (256 * x) w o → Quotient f n x o w w′
+unfolding division slot
+quotient-slot f n x w w′ o r small e eo ew = record {
+  result = go o (ap (λ (v : List Float). slot n v x) ew ∙ divided-slot f n 2 x w r small o e) ∙ ap (λ (z : LuOutcome). whereFactored z Q) eo;
+  only = rw ew (divided-only f n 2 x w r small o);
+}
+  where
+    Q : List Float
+    Q = quotient f n (slot n w 2) (slot n w x)
+
+    go : (o : LuOutcome) → slot n w′ x ≡ standIn o Q (slot n w x) → whereFactored o (slot n w′ x) ≡ whereFactored o Q
+    go Factored q = ap some q
+    go (Singular k) q = refl

@@ -1,0 +1,30 @@
+-- Lines of answers. Assumes nothing.
+use Prim.Native.Nat.{ℕ}
+use mathlib.Core.Path.{_≡_, ap, sym, _∙_}
+use mathlib.Core.List.{List, _++_, append-assoc}
+use lib.Ieee.{Float, Format}
+use Rattle.arithmetic_questions.specs.Result.{Result, refused}
+use Rattle.arithmetic_questions.specs.Answers.{numbered, reported}
+use Rattle.arithmetic_questions.specs.declared.answer.Outcome.{Outcome}
+use Rattle.arithmetic_questions.specs.declared.answer.Outcome.the-variants.{Done, Refused}
+use Rattle.arithmetic_questions.specs.declared.answer.Refusal.{Refusal}
+use Rattle.sheet_encoding.specs.Text.{newline, numbersText, refusedLine, doneHead, doneLine, resultLine, carrying}
+use Rattle.sheet_encoding.proofs.TextLaws.{numbersText-append}
+
+-- a refusal by its number and details
+pub coded-as : {q : Result (Unit {0})} {k x y n a b : ℕ} → q ≡ refused k x y → (n ≡ k) × (a ≡ x) × (b ≡ y) → q ≡ refused n a b
+coded-as e (h, i, j) = rw (h, i, j) e
+
+-- the numbers of two outputs, one after the other
+pub done-line : (f : Format) (task s : ℕ) (l m : List Float) → doneLine f task s (l ++ m) ≡ doneHead task s ++ numbersText f l ++ numbersText f m ++ newline
+unfolding doneLine
+done-line f task s l m = ap (λ (t : List ℕ). t ++ newline) (ap (λ (t : List ℕ). doneHead task s ++ t) (numbersText-append f l m) ∙ sym (append-assoc (doneHead task s) (numbersText f l) (numbersText f m)))
+
+-- the line of an outcome with numbers
+pub answer-done : (f : Format) (task s : ℕ) (o : Outcome) (m : List Float) → o ≡ Done s → doneLine f task s m ≡ resultLine f task (carrying m (reported o))
+unfolding resultLine carrying
+answer-done f task s o m e = rw e
+
+pub answer-no : (f : Format) (task k x y : ℕ) (o : Outcome) (why : Refusal) (m : List Float) → o ≡ Refused why → numbered why ≡ refused k x y → refusedLine task k x y ≡ resultLine f task (carrying m (reported o))
+unfolding resultLine carrying
+answer-no f task k x y o why m e h = rw (e, h)

@@ -1,0 +1,80 @@
+// Runs the recorded vectors that it reads on standard input, and compares every outcome, every output and what is left in the workspace bit
+// for bit, NaN as one value. It writes a line for each function: how many calls there are and how many differ. host/README.md describes the
+// vectors. Those in the file stdin were made so, in the folder host, with FIGPUMICE_SOURCE set to the folder of the source:
+//
+//     for f in lu_compute lu_solve lu_determinant kron kron_sum; do cargo run --offline --release -q -p vectors -- $f 1 3000 | awk '
+//         $6 ~ /^(.?.?.|10..)$/ && (length < 12000 ? NR <= 75 || / no / && ++refused <= 40 : / no 4 / ? ++large <= 1 : / ok / && ++long <= 1)
+//     '; done > ../crates/vectors_lu/stdin
+//
+// Of each function's 3,000 vectors these are the first 75 and the first 40 refusals, without lines of 12,000 bytes and more, and of those the
+// first refusal 4 and the first that is done; an output longer than 4,351 numbers is left out.
+ghost use Prim.Native.Nat.{_≤_};
+ghost use lib.ListN.{length};
+
+mod run;
+
+use run::Function;
+use run::run_vector;
+use vectors_recorded::after;
+use vectors_recorded::is_of;
+use vectors_recorded::tally::Progress;
+use vectors_recorded::tally::Tally;
+use vectors_recorded::tally::next;
+use vectors_recorded::tally::write_rest;
+use vectors_recorded::tally::write_tally;
+
+// Runs the function's vectors from `from` on, up to the first line that is none.
+fn run_function(function: Function, name: &[u8], text: &[u8], from: usize, number: u64) -> Progress
+    requires { ⌜ from ≤ length (now text) ⌝ }
+    ensures { λ r. ⌜ r .at ≤ length (now (text .entry)) ⌝ }
+{
+    let mut tally = Tally::empty();
+    let mut line = number;
+    let mut at = from;
+    while at < text.len() {
+        let end = after(text, at, b'\n');
+        if !is_of(&text[at..end], name) {
+            break;
+        }
+        tally = tally.with(run_vector(function, &text[at..end]), line);
+        line = next(line);
+        at = end;
+    }
+    Progress { tally, line, at }
+}
+
+// Runs and reports the function's vectors that follow.
+fn report(function: Function, name: &[u8], text: &[u8], from: usize, number: u64) -> Progress
+    requires { ⌜ from ≤ length (now text) ⌝ }
+    ensures { λ r. ⌜ r .at ≤ length (now (text .entry)) ⌝ }
+{
+    let progress = run_function(function, name, text, from, number);
+    write_tally(name, progress.tally);
+    progress
+}
+
+// Runs the vectors of each function in turn.
+fn run_text(text: &[u8]) {
+    let a = report(Function::Compute, b"lu_compute", text, 0, 1);
+    let b = report(Function::Solve, b"lu_solve", text, a.at, a.line);
+    let c = report(Function::Determinant, b"lu_determinant", text, b.at, b.line);
+    let d = report(Function::Kron, b"kron", text, c.at, c.line);
+    let e = report(Function::KronSum, b"kron_sum", text, d.at, d.line);
+    write_rest(text, e);
+}
+
+// Reads the whole text, for which there is room, and runs its vectors.
+fn run_input(text: &mut [u8]) {
+    let n = io::read_full(0, text);
+    run_text(&text[..n]);
+}
+
+// The room as a slice: its length is that of its type, and is not computed from its contents.
+fn run_with(room: &mut [u8; 1572864]) {
+    run_input(room);
+}
+
+fn main() {
+    let mut room = [0u8; 1572864];
+    run_with(&mut room);
+}
