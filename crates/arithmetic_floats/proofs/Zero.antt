@@ -15,7 +15,7 @@ use lib.Ieee.Fits.{round-fits, round-is, up-pos, down-pos, and-l, and-r, neg-fit
 use lib.Ieee.Exact.{HasValue, round-exact, odd-sign}
 use lib.Ieee.Nearest.{nearest-ge, div-same}
 use lib.Ieee.Bits.{ofBits-toBits, is-true}
-use Rattle.arithmetic_floats.specs.Float.{Fin}
+use Rattle.arithmetic_floats.specs.Float.{Finite}
 use Rattle.arithmetic_floats.proofs.Order.{split}
 
 -- the two zeros
@@ -297,37 +297,37 @@ unfolding sub
 sub-zeros f x y p q = add-zeros f x (neg y) p (neg-zero y q)
 
 -- ---- a product or a quotient with a zero that is finite is a zero: nothing is asked of the other operand
-mul-zeroOf : (f : Format) (x : Float) (t : Bool) → Fin (mul f x (zeroOf t)) → Zero (mul f x (zeroOf t))
+mul-zeroOf : (f : Format) (x : Float) (t : Bool) → Finite (mul f x (zeroOf t)) → Zero (mul f x (zeroOf t))
 unfolding mul
 mul-zeroOf f nan t h = absurd h
 mul-zeroOf f (inf s) t h = absurd h
 mul-zeroOf f (fin s m e) t h = (unlike s t, ap (λ (x : ℕ). round f (unlike s t) x (down e * 1)) (mul-zero (m * up e)) ∙ round-zero f (unlike s t) (down e * 1) (mul-pos (down-pos e) (zero-lt-suc 0)))
 
-zeroOf-mul : (f : Format) (x : Float) (t : Bool) → Fin (mul f (zeroOf t) x) → Zero (mul f (zeroOf t) x)
+zeroOf-mul : (f : Format) (x : Float) (t : Bool) → Finite (mul f (zeroOf t) x) → Zero (mul f (zeroOf t) x)
 unfolding mul
 zeroOf-mul f nan t h = absurd h
 zeroOf-mul f (inf s) t h = absurd h
 zeroOf-mul f (fin s m e) t h = (unlike t s, ap (λ (x : ℕ). round f (unlike t s) x (1 * down e)) (zero-mul (m * up e)) ∙ round-zero f (unlike t s) (1 * down e) (mul-pos (zero-lt-suc 0) (down-pos e)))
 
-pub mul-zero-right : (f : Format) (x z : Float) → Zero z → Fin (mul f x z) → Zero (mul f x z)
-mul-zero-right f x z o h = subst (λ (y : Float). Zero (mul f x y)) (sym (o .1)) (mul-zeroOf f x (o .0) (subst (λ (y : Float). Fin (mul f x y)) (o .1) h))
+pub mul-zero-right : (f : Format) (x z : Float) → Zero z → Finite (mul f x z) → Zero (mul f x z)
+mul-zero-right f x z o h = subst (λ (y : Float). Zero (mul f x y)) (sym (o .1)) (mul-zeroOf f x (o .0) (subst (λ (y : Float). Finite (mul f x y)) (o .1) h))
 
-pub mul-zero-left : (f : Format) (z x : Float) → Zero z → Fin (mul f z x) → Zero (mul f z x)
-mul-zero-left f z x o h = subst (λ (y : Float). Zero (mul f y x)) (sym (o .1)) (zeroOf-mul f x (o .0) (subst (λ (y : Float). Fin (mul f y x)) (o .1) h))
+pub mul-zero-left : (f : Format) (z x : Float) → Zero z → Finite (mul f z x) → Zero (mul f z x)
+mul-zero-left f z x o h = subst (λ (y : Float). Zero (mul f y x)) (sym (o .1)) (zeroOf-mul f x (o .0) (subst (λ (y : Float). Finite (mul f y x)) (o .1) h))
 
 not-eqb-zero : (m : ℕ) → T (not (eqb m 0)) → 0 < m
 not-eqb-zero zero t = absurd t
 not-eqb-zero (suc m) t = zero-lt-suc m
 
-zeroOf-div : (f : Format) (x : Float) (t : Bool) → Fin (div f (zeroOf t) x) → Zero (div f (zeroOf t) x)
+zeroOf-div : (f : Format) (x : Float) (t : Bool) → Finite (div f (zeroOf t) x) → Zero (div f (zeroOf t) x)
 unfolding div
 zeroOf-div f nan t h = absurd h
 zeroOf-div f (inf s) t h = (unlike t s, refl)
 zeroOf-div f (fin s m e) t h = go (eqb m 0) (not-eqb-zero m) h
   where
-    go : (b : Bool) → (T (not b) → 0 < m) → Fin (cond b nan (round f (unlike t s) (0 * down e) (m * up e * 1))) → Zero (cond b nan (round f (unlike t s) (0 * down e) (m * up e * 1)))
+    go : (b : Bool) → (T (not b) → 0 < m) → Finite (cond b nan (round f (unlike t s) (0 * down e) (m * up e * 1))) → Zero (cond b nan (round f (unlike t s) (0 * down e) (m * up e * 1)))
     go true M h = absurd h
     go false M h = (unlike t s, ap (λ (x : ℕ). round f (unlike t s) x (m * up e * 1)) (zero-mul (down e)) ∙ round-zero f (unlike t s) (m * up e * 1) (mul-pos (mul-pos (M tt) (up-pos e)) (zero-lt-suc 0)))
 
-pub div-zero-left : (f : Format) (z x : Float) → Zero z → Fin (div f z x) → Zero (div f z x)
-div-zero-left f z x o h = subst (λ (y : Float). Zero (div f y x)) (sym (o .1)) (zeroOf-div f x (o .0) (subst (λ (y : Float). Fin (div f y x)) (o .1) h))
+pub div-zero-left : (f : Format) (z x : Float) → Zero z → Finite (div f z x) → Zero (div f z x)
+div-zero-left f z x o h = subst (λ (y : Float). Zero (div f y x)) (sym (o .1)) (zeroOf-div f x (o .0) (subst (λ (y : Float). Finite (div f y x)) (o .1) h))

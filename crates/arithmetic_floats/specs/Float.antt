@@ -18,8 +18,8 @@ abbrev pub half : Float
 half = fin false 1 (negsuc 0)
 
 -- x is neither infinite nor NaN
-abbrev pub Fin : Float → Type 0
-Fin x = T (finite x)
+abbrev pub Finite : Float → Type 0
+Finite x = T (finite x)
 
 -- the binary64 number x in the format f
 unfoldable pub constant : Format → Float → Float

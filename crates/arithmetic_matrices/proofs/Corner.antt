@@ -12,10 +12,9 @@ use lib.Dec.{eqb, eqb→eq, not-T}
 use lib.Ieee.{Float, Format, nan, mul}
 use lib.Ieee.Fits.{add-fits, mul-fits}
 use lib.Ieee.Bits.{is-false}
-use Rattle.arithmetic_floats.specs.Float.{one, +zero}
+use Rattle.arithmetic_floats.specs.Float.{one, +zero, Finite}
 use Rattle.arithmetic_matrices.specs.Matrix.{at, item}
 use Rattle.arithmetic_matrices.specs.Product.{dot, mulM, scaleM, diagonalEntry, diagonalM, identityM, squared}
-use Rattle.arithmetic_floats.specs.Float.{Fin}
 use Rattle.arithmetic_matrices.specs.Finite.{FiniteProduct}
 use Rattle.arithmetic_floats.proofs.Order.{split}
 use Rattle.arithmetic_floats.proofs.Zero.{Zero, Plus, Fits, zero-fits, plus-of-positive, add-zero-right, add-plus, mul-zero-left, mul-zero-right}
@@ -71,7 +70,7 @@ module _ (f : Format) (n N : ℕ) (n≤N : n ≤ N) where
         (false, at-product f N A B i j u J' ∙ dot-zero f (λ k. at N A i k) (λ k. at N B k j) N (λ k v. each i j l u J k v (fin i j u J' k v .0)));
   }
     where
-      each : (i j : ℕ) → n ≤ i → i < N → j < n → (k : ℕ) → k < N → Fin (mul f (at N A i k) (at N B k j)) → Zero (mul f (at N A i k) (at N B k j))
+      each : (i j : ℕ) → n ≤ i → i < N → j < n → (k : ℕ) → k < N → Finite (mul f (at N A i k) (at N B k j)) → Zero (mul f (at N A i k) (at N B k j))
       each i j l u J k v h = elim (split k n) [
         | inl x ↦ mul-zero-left f (at N A i k) (at N B k j) (p .below i k l u x) h
         | inr x ↦ mul-zero-right f (at N A i k) (at N B k j) (q .below k j x v J) h
@@ -99,7 +98,7 @@ module _ (f : Format) (n N : ℕ) (n≤N : n ≤ N) where
   unfolding scaleM at
   at-scale m by a i j I J = getD-tab (m * m) (λ k. mul f (item a k) by) (i * m + j) nan (index-lt I J)
 
-  pub scale-corner : (by : Float) (a A : List Float) → Corner n N a A → ((i j : ℕ) → i < N → j < N → Fin (mul f (at N A i j) by)) → Corner n N (scaleM f n by a) (scaleM f N by A)
+  pub scale-corner : (by : Float) (a A : List Float) → Corner n N a A → ((i j : ℕ) → i < N → j < N → Finite (mul f (at N A i j) by)) → Corner n N (scaleM f n by a) (scaleM f N by A)
   scale-corner by a A p fin = record {
     same = λ i j I J.
         at-scale N by A i j (lt-of-lt-of-le I n≤N) (lt-of-lt-of-le J n≤N)

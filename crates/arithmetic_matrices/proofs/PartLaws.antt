@@ -7,12 +7,12 @@ use mathlib.Core.Path.{_≡_, refl, sym, _∙_, ap}
 use mathlib.Core.List.{List, [], _∷_, _++_, append-nil, append-assoc}
 use mathlib.Core.Logic.{_⊎_, inl, inr, ⊎-elim}
 use lib.ListN.{length, getD, take, drop, set, drop-of-length-le, length-take, length-drop, length-set}
-use lib.Seq.{sets, sets-eq, getD-take, getD-drop, getD-set-same, getD-set-other, length-sets, ext-getD}
+use lib.Seq.{sets, sets-eq, getD-take, getD-drop, getD-set-same, getD-set-other, length-sets, ext-getD, take-all}
 use borrow.Rule.Slice.PartMut.{putMid, post-is}
 use lib.Ieee.{Float, nan}
-use Rattle.arithmetic_matrices.specs.Matrix.{tab, grid, at, part, put, Apart}
+use Rattle.arithmetic_matrices.specs.Matrix.{tab, grid, at, part, put, Apart, item}
 use Rattle.arithmetic_floats.proofs.Order.{split, same-or-not}
-use Rattle.arithmetic_matrices.proofs.MatrixLaws.{length-tab, getD-tab, tab-cong, tab-suc, length-grid, grid-suc, index-lt}
+use Rattle.arithmetic_matrices.proofs.MatrixLaws.{length-tab, getD-tab, tab-cong, tab-suc, length-grid, grid-suc, index-lt, tab-is}
 
 -- ---- parts of a list
 
@@ -231,3 +231,18 @@ returned w ys o n e h =
     let q : o + n ≡ o + length ys = omega arith in
     ap (λ (l : List Float). take o w ++ (ys ++ l)) (post-is o (o + n) w (omega arith) ∙ ap (λ (k : ℕ). drop k w) q)
     ∙ sym (append-assoc (take o w) ys (drop (o + length ys) w)) ∙ sym (sets-eq ys w o b)
+
+-- all of a list is a part of it
+pub part-all : (x : List Float) (k : ℕ) → length x ≡ k → part x 0 k ≡ x
+unfolding part
+part-all x k e = sym (tab-is nan k (λ i. item x (0 + i)) x e (λ i h. ap (item x) (sym (zero-add i))))
+
+-- a part that begins at o
+pub take-part : (w : List Float) (o k : ℕ) → o + k ≤ length w → take k (drop o w) ≡ part w o k
+take-part w o k h = let e : k ≡ o + k - o = omega arith in ap (λ (m : ℕ). take m (drop o w)) e ∙ lent w o k h
+
+pub take-rest : (w : List Float) (o : ℕ) → take (length w - o) (drop o w) ≡ drop o w
+take-rest w o = take-all (length w - o) (drop o w) (omega (arith, length-drop o w))
+
+pub rest-length : (w : List Float) (o : ℕ) → length (take (length w - o) (drop o w)) ≡ length w - o
+rest-length w o = ap length (take-rest w o) ∙ length-drop o w

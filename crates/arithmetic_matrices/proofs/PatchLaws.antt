@@ -10,7 +10,8 @@ use lib.ListN.{length, getD, set, length-set}
 use lib.Seq.{ext-getD, getD-set-same, getD-set-other}
 use lib.Ieee.{Float, nan}
 use borrow.Author.Tests.{lt-ltb, le-ltb, le-leb, lt-leb}
-use Rattle.arithmetic_matrices.specs.Matrix.{tab, at, grid, mapIndexed, patch, rowTo, withRow, rowsTo}
+use Rattle.arithmetic_matrices.specs.Matrix.{tab, at, grid}
+use Rattle.arithmetic_matrices.specs.Kernels.{mapIndexed, patch, rowTo, withRow, rowsTo}
 use Rattle.arithmetic_floats.proofs.Order.{split}
 use Rattle.arithmetic_matrices.proofs.MatrixLaws.{length-tab, getD-tab, index-lt, row-lt, column-lt, grid-is}
 

@@ -13,7 +13,8 @@ use borrow.Author.Tests.{eq-eqb, ne-eqb}
 use Rattle.arithmetic_floats.specs.Float.{one, half}
 use Rattle.arithmetic_floats.proofs.Constants.{+zero-bits}
 use Rattle.arithmetic_matrices.specs.Matrix.{tab, grid, at, part, put, Apart, item}
-use Rattle.arithmetic_matrices.specs.Product.{sum, dot, rowDot, mulM, scaleM, timesM, accumulateM, addMultipleM, deductM, zeroM, addM, subM, meanM, differenceQuotientM, diagonalM, identityM, minusIdentityEntry, minusIdentityM, transposeM, squared}
+use Rattle.arithmetic_matrices.specs.Product.{sum, dot, mulM, scaleM, timesM, accumulateM, addMultipleM, deductM, zeroM, addM, subM, meanM, differenceQuotientM, diagonalM, identityM, minusIdentityEntry, minusIdentityM, transposeM, squared}
+use Rattle.arithmetic_matrices.specs.Kernels.{rowDot}
 use Rattle.arithmetic_matrices.proofs.MatrixLaws.{tab-cong, length-tab, length-grid, grid-cong, row-end, index-lt, getD-tab}
 use Rattle.arithmetic_matrices.proofs.PartLaws.{at-part, length-put, put-append, put-store, getD-put-after, getD-put-apart, put-grid-more, apart-within, tab-part, tab-parts, set-put}
 

@@ -14,7 +14,8 @@ use lib.Ieee.{Float, Format, nan}
 use Rattle.arithmetic_floats.specs.Float.{+zero}
 use Rattle.arithmetic_matrices.specs.Matrix.{tab, item, part, put, Apart}
 use Rattle.arithmetic_matrices.specs.Product.{mulM, squared}
-use Rattle.arithmetic_matrices.specs.Workspace.{slot, store, Room, member, Only, Squared, cleared}
+use Rattle.arithmetic_matrices.specs.Workspace.{slot, store, Room, member, Only, cleared}
+use Rattle.arithmetic_matrices.specs.Kernels.{Squared}
 use Rattle.arithmetic_floats.proofs.Order.{split}
 use Rattle.arithmetic_matrices.proofs.MatrixLaws.{length-tab, tab-cong, square-le}
 use Rattle.arithmetic_matrices.proofs.PartLaws.{length-put, length-part, part-put, part-put-apart, getD-put-before, getD-put-after, getD-put-in}

@@ -3,3 +3,4 @@ pub mod Product
 pub mod Norm
 pub mod Workspace
 pub mod Finite
+pub mod Kernels

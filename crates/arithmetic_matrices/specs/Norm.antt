@@ -33,9 +33,9 @@ unfoldable pub frobenius : Format → ℕ → List Float → Float
 unfolding sumOfSquares sqrtOf
 frobenius f n a = sqrtOf f (sumOfSquares f (n * n) a)
 
-unfoldable pub difference : Format → ℕ → List Float → List Float → Float
+unfoldable pub normOfDifference : Format → ℕ → List Float → List Float → Float
 unfolding frobenius subM
-difference f n a b = frobenius f n (subM f n a b)
+normOfDifference f n a b = frobenius f n (subM f n a b)
 
 -- the sum of the diagonal
 unfoldable pub trace : Format → ℕ → List Float → Float

@@ -1,5 +1,5 @@
 -- Sums, products and multiples of matrices of order n. Sums run from +0 in the order of the index. Definitions only.
-use Prim.Native.Nat.{ℕ, zero, suc, _+_, _*_}
+use Prim.Native.Nat.{ℕ, zero, suc, _*_}
 use mathlib.Core.List.{List}
 use mathlib.Core.Bool.{cond}
 use lib.Dec.{eqb}
@@ -16,11 +16,6 @@ sum f (suc k) g = add f (sum f k g) (g k)
 unfoldable pub dot : Format → ℕ → (ℕ → Float) → (ℕ → Float) → Float
 unfolding sum
 dot f k a b = sum f k (λ i. mul f (a i) (b i))
-
--- the row of n numbers of a from x on, times column j of the n by n matrix that begins in b at y
-unfoldable pub rowDot : Format → ℕ → List Float → ℕ → List Float → ℕ → ℕ → Float
-unfolding dot
-rowDot f n a x b y j = dot f n (λ k. item a (x + k)) (λ k. item b (y + (k * n + j)))
 
 -- the product of two matrices
 unfoldable pub mulM : Format → ℕ → List Float → List Float → List Float

@@ -6,10 +6,9 @@ use mathlib.Core.List.{List, [], _∷_}
 use mathlib.Core.Bool.{Bool, false, _||_}
 use lib.Dec.{eqb}
 use lib.ListN.{length}
-use lib.Ieee.{Float, Format}
+use lib.Ieee.{Float}
 use Rattle.arithmetic_floats.specs.Float.{+zero}
 use Rattle.arithmetic_matrices.specs.Matrix.{tab, item, part, put}
-use Rattle.arithmetic_matrices.specs.Product.{squared}
 
 -- the matrix of order n in slot s
 unfoldable pub slot : ℕ → List Float → ℕ → List Float
@@ -35,11 +34,6 @@ member (t ∷ ts) s = eqb s t || member ts s
 pub record Only (S : ℕ → Bool) (w w′ : List Float) : Type 0 where
   pub long : length w′ ≡ length w
   pub kept : (i : ℕ) → S (i / 256) ≡ false → item w′ i ≡ item w i
-
--- what squaring s times leaves: the power in slot a, scratch in slot t, and the rest as it was
-pub record Squared (f : Format) (n : ℕ) (w : List Float) (a t s : ℕ) (w′ : List Float) : Type 0 where
-  pub power : slot n w′ a ≡ squared f n s (slot n w a)
-  pub only : Only (member (a ∷ t ∷ [])) w w′
 
 -- w with +0 in every slot
 unfoldable pub cleared : List Float → List Float

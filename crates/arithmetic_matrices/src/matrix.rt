@@ -2,7 +2,8 @@
 ghost use mathlib.Core.Path.{_≡_};
 ghost use Prim.Native.Nat.{ℕ, _+_, _*_, _<_, _≤_};
 ghost use lib.ListN.{length, set};
-ghost use Rattle.arithmetic_matrices.specs.Matrix.{at, putRows};
+ghost use Rattle.arithmetic_matrices.specs.Matrix.{at};
+ghost use Rattle.arithmetic_matrices.specs.Kernels.{putRows};
 
 // Entry (i, j) of a matrix of r rows and c columns.
 pub fn entry(b: &[f64], r: usize, c: usize, i: usize, j: usize) -> f64

@@ -4,7 +4,8 @@ ghost use Prim.Native.Nat.{_+_, _*_, _<_, _≤_};
 ghost use lib.ListN.{length};
 ghost use lib.Ieee.{binary64};
 ghost use Rattle.arithmetic_matrices.specs.Matrix.{tab, part, put, Apart};
-ghost use Rattle.arithmetic_matrices.specs.Product.{rowDot, mulM};
+ghost use Rattle.arithmetic_matrices.specs.Kernels.{rowDot};
+ghost use Rattle.arithmetic_matrices.specs.Product.{mulM};
 
 // The row of n numbers of a from x on, times column j of the n by n matrix that begins in b at y.
 // A caller may pass one slice as both.

@@ -7,7 +7,8 @@ ghost use lib.ListN.{length};
 ghost use lib.Ieee.{binary64};
 ghost use Rattle.arithmetic_matrices.specs.Matrix.{tab, item, part, put, Apart};
 ghost use Rattle.arithmetic_matrices.specs.Product.{mulM, scaleM, timesM, accumulateM, deductM, zeroM, addM, meanM, differenceQuotientM, diagonalEntry, diagonalM, identityM, minusIdentityM, transposeM};
-ghost use Rattle.arithmetic_matrices.specs.Workspace.{slot, store, Room, Squared, cleared};
+ghost use Rattle.arithmetic_matrices.specs.Workspace.{slot, store, Room, cleared};
+ghost use Rattle.arithmetic_matrices.specs.Kernels.{Squared};
 use crate::product::mat_mult;
 
 // Room for 64 numbers: a matrix of order up to 8, or a column.

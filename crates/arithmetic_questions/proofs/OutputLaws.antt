@@ -13,7 +13,8 @@ use Rattle.arithmetic_matrices.specs.Workspace.{slot, store, cleared, Only}
 use Rattle.arithmetic_questions.specs.Result.{Result, refused, done, _>>=_, outcome, exit, workspace}
 use Rattle.arithmetic_questions.specs.Questions.{Call, Profile, asked, answer}
 use Rattle.arithmetic_questions.specs.Answers.{numbered, reported, found}
-use Rattle.arithmetic_questions.specs.Outputs.{OneOutput, OneOutputIn, OneOutputWith, Replaced, Delivered}
+use Rattle.arithmetic_questions.specs.Outputs.{OneOutput, OneOutputIn, OneOutputWith}
+use Rattle.arithmetic_questions.specs.Kernels.{Replaced, Delivered}
 use Rattle.arithmetic_questions.specs.declared.answer.Outcome.{Outcome}
 use Rattle.arithmetic_questions.specs.declared.answer.Outcome.the-variants.{Done, Refused}
 use Rattle.arithmetic_questions.specs.declared.answer.Question.{Question}

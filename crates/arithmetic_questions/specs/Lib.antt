@@ -2,3 +2,4 @@ pub mod Result
 pub mod Questions
 pub mod Answers
 pub mod Outputs
+pub mod Kernels

@@ -2,7 +2,7 @@
 ghost use Prim.Native.Nat.{_≤_};
 ghost use lib.ListN.{length};
 ghost use Rattle.arithmetic_matrices.specs.Matrix.{part};
-ghost use Rattle.arithmetic_questions.specs.Outputs.{Delivered, DeliveredBoth};
+ghost use Rattle.arithmetic_questions.specs.Kernels.{Delivered, DeliveredBoth};
 use crate::answer::Answer;
 use crate::answer::Outcome;
 use crate::answer::done;

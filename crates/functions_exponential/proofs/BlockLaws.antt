@@ -12,14 +12,15 @@ use lib.Seq.{ext-getD}
 use lib.Ieee.{Float, nan}
 use borrow.Author.Tests.{lt-ltb, le-ltb}
 use Rattle.arithmetic_floats.specs.Float.{+zero}
-use Rattle.arithmetic_matrices.specs.Matrix.{tab, grid, item, at, part, put, putRows}
+use Rattle.arithmetic_matrices.specs.Matrix.{tab, grid, item, at, part, put}
+use Rattle.arithmetic_matrices.specs.Kernels.{putRows}
 use Rattle.arithmetic_matrices.specs.Product.{zeroM}
 use Rattle.arithmetic_matrices.specs.Workspace.{store}
 use Rattle.arithmetic_floats.proofs.Order.{split}
 use Rattle.arithmetic_matrices.proofs.MatrixLaws.{length-tab, getD-tab, length-grid, grid-is, row-end, index-lt}
 use Rattle.arithmetic_matrices.proofs.PartLaws.{length-put, length-part, at-part, getD-part, getD-put-before, getD-put-after, getD-put-in}
 use Rattle.arithmetic_matrices.proofs.ProductLaws.{length-zeroM}
-use Rattle.functions_exponential.specs.Exponential.{block}
+use Rattle.functions_definitions.specs.Exponential.{block}
 
 -- place b of row p, and the c places from B on of row P, in rows of `step` numbers
 row-apart : (step p b P B c : ℕ) → b < step → B + c ≤ step → (p ≡ P → (b < B) ⊎ (B + c ≤ b)) → (p * step + b < P * step + B) ⊎ (P * step + B + c ≤ p * step + b)

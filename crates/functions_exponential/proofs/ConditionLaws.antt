@@ -1,19 +1,18 @@
 -- What a call of cond_expm answers. Assumes nothing.
-use Prim.Native.Nat.{ℕ, _+_, _*_, _≤_}
+use Prim.Native.Nat.{ℕ, _*_, _≤_}
 use native.Mathlib.Omega.{arith}
-use native.Mathlib.Nat.{zero-add, mul-le-mul}
 use mathlib.Core.Path.{_≡_, refl, sym, ap, _∙_}
 use mathlib.Core.Bool.{Bool, cond}
 use mathlib.Core.List.{List}
 use lib.Dec.{ltb}
 use lib.ListN.{length}
 use lib.IntN.{pos}
-use lib.Ieee.{Float, Format, nan, binary64, emax, hid, div, ofBits, ofInt}
+use lib.Ieee.{Float, Format, binary64, emax, hid, div, ofBits, ofInt}
 use Rattle.arithmetic_floats.specs.Float.{+zero, one, constant}
 use Rattle.arithmetic_floats.specs.Root.{sqrtOf}
 use Rattle.arithmetic_floats.proofs.Constants.{one-bits}
 use Rattle.arithmetic_floats.proofs.Widths.{root-once}
-use Rattle.arithmetic_matrices.specs.Matrix.{item, part}
+use Rattle.arithmetic_matrices.specs.Matrix.{part}
 use Rattle.arithmetic_matrices.specs.Product.{diagonalM}
 use Rattle.arithmetic_matrices.specs.Norm.{frobenius}
 use Rattle.arithmetic_matrices.specs.Workspace.{Room, store, cleared, Only}
@@ -26,29 +25,20 @@ use Rattle.arithmetic_questions.specs.declared.answer.Outcome.the-variants.{Don
 use Rattle.arithmetic_questions.specs.declared.answer.Question.{Question}
 use Rattle.arithmetic_questions.specs.declared.answer.Question.the-variants.{Passed, No}
 use Rattle.arithmetic_questions.specs.declared.answer.Refusal.{Refusal}
-use Rattle.arithmetic_matrices.proofs.MatrixLaws.{tab-is, square-le}
+use Rattle.arithmetic_matrices.proofs.MatrixLaws.{square-le}
 use Rattle.arithmetic_matrices.proofs.PartLaws.{part-put}
 use Rattle.arithmetic_matrices.proofs.ProductLaws.{length-diagonalM}
 use Rattle.arithmetic_matrices.proofs.Slots.{only-store, only-trans, cleared-only}
 use Rattle.arithmetic_questions.proofs.QuestionLaws.{as-refused}
 use Rattle.arithmetic_questions.proofs.AnswerLaws.{answer-passed, outcome-no, exit-no}
 use Rattle.arithmetic_questions.proofs.OutputLaws.{Late, late-where}
-use Rattle.functions_exponential.specs.Derivatives.{Condition, unitDirection, conditionOf, conditioned, condExpM, frechetExpM}
-use Rattle.functions_exponential.specs.Frechet.{Written}
-use Rattle.functions_exponential.specs.Conditions.{Rated, rated, Conditioned}
-use Rattle.functions_exponential.proofs.FrechetLaws.{late-frechetExpM}
+use Rattle.functions_definitions.specs.Derivatives.{Condition, unitDirection, conditionOf, conditioned, condExpM, frechetExpM}
+use Rattle.functions_exponential.specs.Kernels.{Written, Rated, rated}
+use Rattle.functions_definitions.specs.Conditions.{Conditioned}
 
 -- the entries of the unit direction, as the code has them: v is the order, r its root
 pub unit-number : (f : Format) (n : ℕ) (v r : Float) → n ≤ 16 → v ≡ ofInt f (pos n) → r ≡ sqrtOf f v → div f (ofBits f (emax f * hid f)) r ≡ div f one (constant f (sqrtOf binary64 (ofInt binary64 (pos n))))
 unit-number f n v r h e k = λ i. div f (one-bits f i) ((k ∙ ap (sqrtOf f) e ∙ sym (root-once f n h)) i)
-
--- all of a list is a part of it
-pub part-all : (x : List Float) (k : ℕ) → length x ≡ k → part x 0 k ≡ x
-unfolding part
-part-all x k e = sym (tab-is nan k (λ i. item x (0 + i)) x e (λ i h. ap (item x) (sym (zero-add i))))
-
-pub square-le8 : (n : ℕ) → n ≤ 8 → n * n ≤ 64
-square-le8 n h = mul-le-mul {n₁ = n} {m₁ = n} {n₂ = 8} {m₂ = 8} h h
 
 -- what was stored in slot 0 is read back from it
 pub unit-read : {k : ℕ} (x : Float) (n : ℕ) (w w1 out : List Float) → Room n w → k ≡ n * n → w1 ≡ store w 0 (diagonalM n x) → out ≡ part w1 (256 * 0) k → out ≡ diagonalM n x
@@ -87,14 +77,6 @@ module _ (f : Format) (n : ℕ) (small : n ≤ 16) (a w w1 w2 e x x′ d d′ : 
       go : (z : Result Both) → reported given ≡ outcome z → x′ ≡ exit (λ (b : Both). b .value) z x → d′ ≡ exit (λ (b : Both). b .derivative) z d → Conditioned (conditioned f n z) o p q r
       go (refused k i j) t u v = rw t at C
       go (done s b) t u v = rw (t, u, v) at C
-
-pub late-condExpM : (f : Format) (n : ℕ) (a : List Float) → Late (condExpM f n a)
-unfolding condExpM conditioned
-late-condExpM f n a = go (frechetExpM f n a (unitDirection f n)) (late-frechetExpM f n a (unitDirection f n))
-  where
-    go : (z : Result Both) → Late z → Late (conditioned f n z)
-    go (refused k i j) l = l
-    go (done s b) l = tt
 
 -- ---- the call
 

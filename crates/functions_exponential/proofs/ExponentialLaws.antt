@@ -2,12 +2,11 @@
 use mathlib.Core.Path.{_≡_, refl, sym, ap, _∙_, subst}
 use mathlib.Core.List.{List, [], _∷_}
 use mathlib.Core.Bool.{Bool}
-use Prim.Native.Nat.{ℕ, zero, suc, _+_, _-_, _*_, _≤_}
+use Prim.Native.Nat.{ℕ, zero, suc, _+_, _-_, _*_}
 use native.Mathlib.Numerals.{add-one}
 use native.Mathlib.Omega.{arith}
 use lib.Dec.{lit<}
-use lib.ListN.{length, take, drop, length-drop}
-use lib.Seq.{take-all}
+use lib.ListN.{length, take, drop}
 use lib.Ieee.{Float, Format, add, mul}
 use borrow.Author.Tests.{eq-eqb, ne-eqb}
 use Rattle.lu_factoring.specs.declared.LuOutcome.{LuOutcome}
@@ -15,20 +14,28 @@ use Rattle.lu_factoring.specs.declared.LuOutcome.the-variants.{Factored, Singul
 use Rattle.arithmetic_floats.specs.Float.{+zero, inversePowerOfTwo}
 use Rattle.arithmetic_matrices.specs.Matrix.{at, item, part}
 use Rattle.arithmetic_matrices.specs.Product.{zeroM, dot, accumulateM, identityM, scaleM, squared, mulM}
-use Rattle.arithmetic_matrices.specs.Workspace.{Room, slot, store, member, Squared}
+use Rattle.arithmetic_matrices.specs.Workspace.{Room, slot, store, member, Only}
+use Rattle.arithmetic_matrices.specs.Kernels.{Squared}
 use Rattle.arithmetic_matrices.proofs.MatrixLaws.{grid-is, at-grid, square-le}
-use Rattle.arithmetic_matrices.proofs.PartLaws.{lent}
+use Rattle.arithmetic_matrices.proofs.PartLaws.{take-part, take-rest}
 use Rattle.arithmetic_matrices.proofs.ProductLaws.{length-zeroM, at-tab, length-accumulateM, dot-more}
 use Rattle.arithmetic_matrices.proofs.Slots.{only-trans, only-more, length-slot, slot-only, only-refl}
 use Rattle.arithmetic_matrices.proofs.States.{held, Held, listed, State, start, step-identity, step-zero, step-accumulate, step-call, state-listed, holds-as, held-at, member-among, step-scale, step-copy-in, step-copy, step-mult, Holds}
-use Rattle.arithmetic_matrices.specs.Norm.{norm1}
-use Rattle.arithmetic_questions.proofs.OutputLaws.{Late}
 use Rattle.lu_factoring.specs.Lu.{luOutcome}
-use Rattle.lu_factoring.specs.Solve.{standIn, divided, quotient}
+use Rattle.lu_factoring.specs.Solve.{standIn, quotient}
+use Rattle.lu_factoring.specs.Kernels.{divided}
 use Rattle.lu_factoring.proofs.DivisionLaws.{divided-slot, divided-only}
-use Rattle.functions_exponential.specs.Powers.{expM}
-use Rattle.functions_exponential.proofs.HalvingLaws.{halvings-late}
-use Rattle.functions_exponential.specs.Exponential.{coefficient, nextCoefficient, nextPower, power, combinationTo, flipped, flip, Raised, Summed, Quotient, Approximated, Exponentiated, numerator, denominator, combination, exponential, pade, scaled}
+use Rattle.arithmetic_questions.specs.Result.{done, _>>=_, outcome, exit}
+use Rattle.arithmetic_questions.specs.Answers.{reported}
+use Rattle.arithmetic_questions.specs.Kernels.{Replaced}
+use Rattle.arithmetic_questions.specs.declared.answer.Outcome.{Outcome}
+use Rattle.arithmetic_questions.specs.declared.answer.Outcome.the-variants.{Done, Refused}
+use Rattle.arithmetic_questions.specs.declared.answer.Refusal.{Refusal}
+use Rattle.arithmetic_questions.proofs.BothLaws.{call-refused}
+use Rattle.functions_definitions.specs.Powers.{halvingsFor, halvingsReport}
+use Rattle.functions_definitions.proofs.HalvingLaws.{halvings-outcome, halvings-set}
+use Rattle.functions_definitions.specs.Exponential.{coefficient, nextCoefficient, power, combinationTo, flipped, flip, numerator, denominator, combination, exponential, pade, scaled}
+use Rattle.functions_exponential.specs.Kernels.{nextPower, Raised, Summed, PadeQuotient, Approximated, Exponentiated}
 
 -- ---- one term more
 
@@ -53,16 +60,6 @@ combination-more f n c a k =
     at-tab n (λ m. add f (item (combinationTo f n c a k) m) (mul f (c k) (item (power f n a k) m))) i j p q
     ∙ ap (λ (x : Float). add f x (mul f (c k) (at n (power f n a k) i j))) (at-grid n n (λ i j. dot f k c (λ m. at n (power f n a m) i j)) i j p q)
     ∙ sym (dot-more f k c (λ m. at n (power f n a m) i j)))
-
--- a part that begins at o
-pub take-part : (w : List Float) (o k : ℕ) → o + k ≤ length w → take k (drop o w) ≡ part w o k
-take-part w o k h = let e : k ≡ o + k - o = omega arith in ap (λ (m : ℕ). take m (drop o w)) e ∙ lent w o k h
-
-take-rest : (w : List Float) (o : ℕ) → take (length w - o) (drop o w) ≡ drop o w
-take-rest w o = take-all (length w - o) (drop o w) (omega (arith, length-drop o w))
-
-pub rest-length : (w : List Float) (o : ℕ) → length (take (length w - o) (drop o w)) ≡ length w - o
-rest-length w o = ap length (take-rest w o) ∙ length-drop o w
 
 -- the part that `quotient_or_numerator` returns
 pub quotient-part : {count : ℕ} (n : ℕ) (w : List Float) (o : LuOutcome) → count ≡ n * n → Room n w
@@ -158,7 +155,7 @@ module _ (f : Format) (n : ℕ) (w₀ : List Float) (r : Room n w₀) where
   -- ---- the quotient, or the numerator in its place
 
   -- the numerator is copied to slot 5 and divided there by what stands in slot 3
-  pub quotient-beside : (w1 w2 : List Float) (o : LuOutcome) → w1 ≡ store w₀ 5 (slot n w₀ 2) → o ≡ luOutcome f n (part w1 768 (n * n)) → w2 ≡ divided f n n 768 1280 w1 o → Quotient f n w₀ w2 o
+  pub quotient-beside : (w1 w2 : List Float) (o : LuOutcome) → w1 ≡ store w₀ 5 (slot n w₀ 2) → o ≡ luOutcome f n (part w1 768 (n * n)) → w2 ≡ divided f n n 768 1280 w1 o → PadeQuotient f n w₀ w2 o
   quotient-beside w1 w2 o e1 eo e2 =
       let both = member (3 ∷ 5 ∷ []) in
       let s1 = step-copy n (r .order) 2 5 (start both n r) e1 refl refl refl in
@@ -172,7 +169,7 @@ module _ (f : Format) (n : ℕ) (w₀ : List Float) (r : Room n w₀) where
       }
 
   -- the sums, their quotient, and the stand-in
-  pub pade-steps : (w1 w2 w3 : List Float) (o : LuOutcome) → Summed f n w₀ w1 → Quotient f n w1 w2 o → w3 ≡ store w2 0 (standIn o (slot n w2 5) (slot n w2 2)) → Approximated f n w₀ w3
+  pub pade-steps : (w1 w2 w3 : List Float) (o : LuOutcome) → Summed f n w₀ w1 → PadeQuotient f n w1 w2 o → w3 ≡ store w2 0 (standIn o (slot n w2 5) (slot n w2 2)) → Approximated f n w₀ w3
   unfolding pade
   pade-steps w1 w2 w3 o P Q e3 =
       let A = slot n w₀ 0 in
@@ -196,6 +193,15 @@ module _ (f : Format) (n : ℕ) (w₀ : List Float) (r : Room n w₀) where
         only = only-trans (s1 .only) (only-trans (P .only) (only-more (member-among all (0 ∷ 4 ∷ []) refl) (Q .only)));
       }
 
-pub late-expM : (f : Format) (n : ℕ) (a : List Float) → Late (expM f n a)
-unfolding expM
-late-expM f n a = halvings-late (norm1 f n a) (λ s. exponential f n s a)
+-- ---- a matrix in slot 0 that g replaces at the halvings of the norm x
+
+module _ (ss : List ℕ) (n : ℕ) (g : ℕ → List Float) (x : Float) (o : Outcome) (H : reported o ≡ halvingsReport x) (w : List Float) where
+  pub halved-none : (y : Refusal) → o ≡ Refused y → Replaced ss n (halvingsFor x >>= λ s. done s (g s)) (Refused y) w w
+  unfolding outcome exit
+  halved-none y e =
+      let (k, i, j, ex, en) = call-refused (halvingsFor x >>= λ s. done s (g s)) o y (H ∙ sym (halvings-outcome x g)) e in
+      rw ex (record { outcome = en; result = refl; only = only-refl (member ss) w })
+
+  pub halved-done : (s : ℕ) (w′ : List Float) → o ≡ Done s → slot n w′ 0 ≡ g s → Only (member ss) w w′ → Replaced ss n (halvingsFor x >>= λ s. done s (g s)) (Done s) w w′
+  unfolding outcome exit
+  halved-done s w′ e r k = rw (halvings-set x g s (sym H ∙ ap reported e)) (record { outcome = refl; result = r; only = k })

@@ -1,5 +1,5 @@
 -- What a call of frechet_expm leaves. Assumes nothing.
-use Prim.Native.Nat.{ℕ, _+_, _*_, _<_, _≤_}
+use Prim.Native.Nat.{ℕ, _+_, _*_, _<_, _≤_, _^_}
 use native.Mathlib.Nat.{add-mul}
 use mathlib.Core.Path.{_≡_, refl, sym, ap, _∙_}
 use mathlib.Core.Bool.{Bool, true, cond}
@@ -7,12 +7,13 @@ use mathlib.Core.List.{List}
 use native.Mathlib.Omega.{arith}
 use lib.Dec.{ltb}
 use lib.ListN.{length}
-use lib.Ieee.{Float, Format}
+use lib.Ieee.{Float, Format, prec}
 use Rattle.arithmetic_matrices.specs.Workspace.{slot, store, cleared, Only, Room}
-use Rattle.arithmetic_questions.specs.Result.{Result, refused, done, outcome, exit}
+use Rattle.arithmetic_questions.specs.Result.{Result, refused, done, outcome, exit, _>>=_}
 use Rattle.arithmetic_questions.specs.Questions.{Call, Profile, asked, answer}
 use Rattle.arithmetic_questions.specs.Answers.{reported, found}
-use Rattle.arithmetic_questions.specs.Outputs.{Both, TwoOutputsWith, Replaced}
+use Rattle.arithmetic_questions.specs.Outputs.{Both, TwoOutputsWith}
+use Rattle.arithmetic_questions.specs.Kernels.{Replaced}
 use Rattle.arithmetic_questions.specs.declared.answer.Outcome.{Outcome}
 use Rattle.arithmetic_questions.specs.declared.answer.Outcome.the-variants.{Done, Refused}
 use Rattle.arithmetic_questions.specs.declared.answer.Question.{Question}
@@ -23,21 +24,18 @@ use Rattle.arithmetic_matrices.proofs.Slots.{slot-store, only-store, only-trans
 use Rattle.arithmetic_matrices.proofs.States.{among, member-among}
 use Rattle.arithmetic_questions.proofs.AnswerLaws.{answer-passed}
 use Rattle.arithmetic_questions.proofs.OutputLaws.{Late, late-where, exit-done, exit-refused, exit-as}
-use Rattle.functions_exponential.specs.Exponential.{block, quarter}
-use Rattle.functions_exponential.specs.Powers.{expM}
-use Rattle.functions_exponential.specs.Derivatives.{frechetExpM, blockQuarters}
-use Rattle.functions_exponential.specs.Frechet.{Quartered, Written}
-use Rattle.functions_exponential.proofs.ExponentialLaws.{late-expM}
+use Rattle.functions_definitions.specs.Exponential.{block, quarter, exponential}
+use Rattle.functions_definitions.specs.Powers.{expM, halvingsFor}
+use Rattle.functions_definitions.specs.Derivatives.{frechetExpM, blockQuarters}
+use Rattle.functions_exponential.specs.Kernels.{Quartered, Written}
+use Rattle.functions_definitions.specs.Frechet.{FirstAlone}
+use Rattle.arithmetic_matrices.specs.Norm.{norm1}
+use Rattle.functions_definitions.proofs.HalvingLaws.{halvings-set, halvings-outcome, quarters-outcome}
+use Rattle.functions_definitions.proofs.FirstOutput.{first-output-alone}
 
 length-block : (n : ℕ) (a e : List Float) → length (block n a e) ≡ (n + n) * (n + n)
 unfolding block
 length-block n a e = length-grid (n + n) (n + n) _
-
--- the quarters report what the block's exponential does
-pub quarters-outcome : (n : ℕ) (x : Result (List Float)) → outcome (blockQuarters n x) ≡ outcome x
-unfolding blockQuarters outcome
-quarters-outcome n (refused k i j) = refl
-quarters-outcome n (done s x) = refl
 
 -- and their outputs are the quarters of its output, v
 quarters-read : (n : ℕ) (x : Result (List Float)) (v : List Float) → v ≡ exit (λ z. z) x v
@@ -45,14 +43,6 @@ quarters-read : (n : ℕ) (x : Result (List Float)) (v : List Float) → v ≡ e
 unfolding blockQuarters exit
 quarters-read n (refused k i j) v r = (refl, refl)
 quarters-read n (done s x) v r = (ap (quarter n 0) r, ap (quarter n n) r)
-
-pub late-frechetExpM : (f : Format) (n : ℕ) (a e : List Float) → Late (frechetExpM f n a e)
-unfolding frechetExpM blockQuarters
-late-frechetExpM f n a e = go (expM f (n + n) (block n a e)) (late-expM f (n + n) (block n a e))
-  where
-    go : (x : Result (List Float)) → Late x → Late (blockQuarters n x)
-    go (refused k i j) l = l
-    go (done s x) l = tt
 
 -- ---- the rows of the block are within it, and it within its slot
 
@@ -114,3 +104,13 @@ module _ (p : Profile) (c : Call) (q : Question) (h : found q ≡ asked p c) (cl
         derivative = W .derivative;
         workspace = late-where clears x w w1 w2 l v (cleared-only w w1 room (W .only));
       })
+
+-- A run that is done wrote the upper left quarter: so its first output is the exponential of A, whatever the direction, the workspace and the outputs were.
+pub written-alone : (f : Format) (n : ℕ) (a e first first′ second second′ w w′ : List Float) (o : Outcome) → n + n ≤ 2 ^ prec f
+    → Written (frechetExpM f n a e) o first first′ second second′ w w′ → FirstAlone f n o a e first′
+unfolding frechetExpM expM blockQuarters exit
+written-alone f n a e first first′ second second′ w w′ o h W s d v =
+    let g : ℕ → List Float = λ s. exponential f (n + n) s (block n a e) in
+    let x = norm1 f (n + n) (block n a e) in
+    let E = halvings-set x g s (sym (halvings-outcome x g) ∙ sym (quarters-outcome n (halvingsFor x >>= λ s. done s (g s))) ∙ sym (W .outcome) ∙ d) in
+    W .value ∙ ap (λ (r : Result (List Float)). exit (λ (b : Both). b .value) (blockQuarters n r) first) E ∙ first-output-alone f n s a e h v

@@ -6,7 +6,8 @@ ghost use lib.ListN.{length};
 ghost use lib.Ieee.{binary64};
 ghost use Rattle.arithmetic_matrices.specs.Workspace.{Room, slot, store};
 ghost use Rattle.lu_factoring.specs.Solve.{standIn};
-ghost use Rattle.functions_exponential.specs.Exponential.{nextCoefficient, Raised, Summed, Quotient, Approximated, Exponentiated, flip as flipOf};
+ghost use Rattle.functions_definitions.specs.Exponential.{nextCoefficient, flip as flipOf};
+ghost use Rattle.functions_exponential.specs.Kernels.{Raised, Summed, PadeQuotient, Approximated, Exponentiated};
 use arithmetic_floats::float::inverse_power_of_two;
 use arithmetic_floats::float::of_small;
 use arithmetic_matrices::matrix::copy_row;
@@ -75,7 +76,7 @@ pub fn pade_sums(w: &mut [f64], n: usize)
 fn pade_divide(w: &mut [f64], n: usize, pivots: &mut [usize]) -> LuOutcome
     requires { ⌜ Room n (now w) ⌝ }
     requires { ⌜ length (now pivots) ≡ n ⌝ }
-    ensures { λ r. ⌜ Quotient binary64 n (now (w .entry)) (now (w .exit)) r ⌝ }
+    ensures { λ r. ⌜ PadeQuotient binary64 n (now (w .entry)) (now (w .exit)) r ⌝ }
 {
     copy(w, 2, 5, n);
     divide(w, 768, 1280, n, n, pivots)

@@ -3,7 +3,7 @@ ghost use mathlib.Core.Path.{_≡_};
 ghost use Prim.Native.Nat.{ℕ, _≤_};
 ghost use Rattle.arithmetic_questions.specs.Answers.{reported};
 ghost use Rattle.arithmetic_questions.specs.Result.{done};
-ghost use Rattle.functions_exponential.specs.Powers.{halvingsReport};
+ghost use Rattle.functions_definitions.specs.Powers.{halvingsReport};
 use arithmetic_floats::float::halvings_of;
 use arithmetic_questions::answer::Outcome;
 use arithmetic_questions::answer::Question;

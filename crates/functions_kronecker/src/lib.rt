@@ -1,6 +1,6 @@
 // The Kronecker product and the Kronecker sum of two matrices, written block by block: block (i, j) is formed from entry (i, j) of the first matrix.
 // Last the two calls, which ask their questions first.
-pub mod question;
+mod question;
 
 ghost use mathlib.Core.Path.{_≡_};
 ghost use Prim.Native.Nat.{_+_, _*_, _<_, _≤_};
@@ -9,9 +9,11 @@ ghost use lib.Ieee.{binary64, add, mul};
 ghost use Rattle.arithmetic_floats.specs.Float.{one};
 ghost use Rattle.arithmetic_matrices.specs.Matrix.{tab, grid, at, put};
 ghost use Rattle.arithmetic_matrices.specs.Product.{diagonalEntry};
-ghost use Rattle.functions_exponential.specs.Calls.{kronSum, kron as kronOf};
+ghost use Rattle.functions_definitions.specs.Calls.{kronSum, kron as kronOf};
 ghost use Rattle.arithmetic_questions.specs.Outputs.{OneOutput};
-ghost use Rattle.functions_exponential.specs.Kronecker.{kronM, kronSumM, kronEntry, kronSumEntry, blockRow};
+ghost use Rattle.functions_definitions.specs.Kronecker.{kronM, kronSumM};
+ghost use Rattle.functions_kronecker.specs.Kernels.{kronEntry, kronSumEntry};
+ghost use Rattle.arithmetic_matrices.specs.Kernels.{blockRow};
 use crate::question::ask_kron;
 use crate::question::ask_kron_sum;
 use arithmetic_matrices::workspace::diagonal_entry;

@@ -6,17 +6,16 @@ use lib.Ieee.{Float, Format}
 use Rattle.arithmetic_matrices.specs.Product.{accumulateM, differenceQuotientM}
 use Rattle.arithmetic_matrices.specs.Workspace.{Room, slot, store, member, Only}
 use Rattle.arithmetic_questions.specs.Result.{done, _>>=_, outcome, exit}
-use Rattle.arithmetic_questions.specs.Outputs.{Replaced, ReplacedBoth}
+use Rattle.arithmetic_questions.specs.Kernels.{Replaced, ReplacedBoth}
 use Rattle.arithmetic_questions.specs.declared.answer.Outcome.{Outcome}
 use Rattle.arithmetic_questions.specs.declared.answer.Outcome.the-variants.{Done, Refused}
 use Rattle.arithmetic_questions.specs.declared.answer.Refusal.{Refusal}
-use Rattle.arithmetic_questions.proofs.BothLaws.{call-done}
+use Rattle.arithmetic_questions.proofs.BothLaws.{call-done, both-refused, both-follows}
 use Rattle.arithmetic_matrices.proofs.Slots.{only-trans, only-more}
 use Rattle.arithmetic_matrices.proofs.States.{start, step-copy, step-accumulate, step-difference-quotient, step-call, held-at, member-among}
-use Rattle.functions_exponential.specs.Logarithm.{logarithm}
-use Rattle.functions_exponential.specs.Derivatives.{logStep, frechetLogM}
-use Rattle.functions_logarithms.specs.Frechet.{shiftedLogarithm, QuotientPlaced}
-use Rattle.functions_roots.proofs.TwoCalls.{both-refused, both-follows}
+use Rattle.functions_definitions.specs.Logarithm.{logarithm}
+use Rattle.functions_definitions.specs.Derivatives.{logStep, frechetLogM, secondLogarithm}
+use Rattle.functions_logarithms.specs.Kernels.{QuotientPlaced}
 use Rattle.functions_logarithms.proofs.LogarithmLaws.{used}
 
 -- the slots that change
@@ -49,8 +48,8 @@ module _ (f : Format) (n : ℕ) (w₀ : List Float) (r : Room n w₀) where
         let s4 = step-call used s3 (R .only) (member-among (member moved) used refl) in
         (held-at 0 n s3 refl ∙ ap (λ (c : Float). accumulateM f n c (slot n w₀ 4) (slot n w₀ 5)) eh, held-at 6 n s4 refl, s4 .only)
 
-    pub second-done : (s : ℕ) (w5 : List Float) → o ≡ Done s → QuotientPlaced f n w4 w5 → ReplacedBoth moved n (shiftedLogarithm f n (slot n w₀ 4) (slot n w₀ 5) (slot n w₀ 0)) (Done 0) w₀ w5
-    unfolding shiftedLogarithm _>>=_ outcome exit
+    pub second-done : (s : ℕ) (w5 : List Float) → o ≡ Done s → QuotientPlaced f n w4 w5 → ReplacedBoth moved n (secondLogarithm f n (slot n w₀ 4) (slot n w₀ 5) (slot n w₀ 0)) (Done 0) w₀ w5
+    unfolding secondLogarithm _>>=_ outcome exit
     second-done s w5 eo P =
         let x : logarithm f n (accumulateM f n (logStep f) (slot n w₀ 4) (slot n w₀ 5)) ≡ done s (slot n w4 0) =
         ap (logarithm f n) (sym (shifted .0)) ∙ call-done (logarithm f n (slot n w3 0)) o (slot n w4 0) s (R .outcome) (R .result) eo in
@@ -62,8 +61,8 @@ module _ (f : Format) (n : ℕ) (w₀ : List Float) (r : Room n w₀) where
           only = only-trans (shifted .2) (only-more (member-among (member moved) (0 ∷ 1 ∷ []) refl) (P .only));
         })
 
-    pub second-refused : (y : Refusal) → o ≡ Refused y → ReplacedBoth moved n (shiftedLogarithm f n (slot n w₀ 4) (slot n w₀ 5) (slot n w₀ 0)) (Refused y) w₀ w4
-    unfolding shiftedLogarithm
+    pub second-refused : (y : Refusal) → o ≡ Refused y → ReplacedBoth moved n (secondLogarithm f n (slot n w₀ 4) (slot n w₀ 5) (slot n w₀ 0)) (Refused y) w₀ w4
+    unfolding secondLogarithm
     second-refused y eo =
         both-refused (logarithm f n (accumulateM f n (logStep f) (slot n w₀ 4) (slot n w₀ 5))) _ moved n o y w₀ w4 (R .outcome ∙ ap (λ (a : List Float). outcome (logarithm f n a)) (shifted .0)) eo (shifted .2)
 
@@ -76,13 +75,13 @@ module _ (f : Format) (n : ℕ) (w₀ : List Float) (r : Room n w₀) where
         let s2 = step-call used s1 (R .only) (member-among (member moved) used refl) in
         (held-at 0 n s1 refl, held-at 4 n s2 refl, held-at 5 n s2 refl, s2 .only)
 
-    pub frechet-follows : (s : ℕ) (p : Outcome) (w3 : List Float) → o ≡ Done s → ReplacedBoth moved n (shiftedLogarithm f n (slot n w2 4) (slot n w2 5) (slot n w2 0)) p w2 w3
+    pub frechet-follows : (s : ℕ) (p : Outcome) (w3 : List Float) → o ≡ Done s → ReplacedBoth moved n (secondLogarithm f n (slot n w2 4) (slot n w2 5) (slot n w2 0)) p w2 w3
         → ReplacedBoth moved n (frechetLogM f n (slot n w₀ 0) (slot n w₀ 4)) p w₀ w3
-    unfolding frechetLogM shiftedLogarithm
+    unfolding frechetLogM secondLogarithm
     frechet-follows s p w3 eo S =
         let x : logarithm f n (slot n w₀ 0) ≡ done s (slot n w2 0) = ap (logarithm f n) (sym (first .0)) ∙ call-done (logarithm f n (slot n w1 0)) o (slot n w2 0) s (R .outcome) (R .result) eo in
-        let S′ : ReplacedBoth moved n (shiftedLogarithm f n (slot n w₀ 4) (slot n w₀ 0) (slot n w2 0)) p w2 w3 = rw (first .1, first .2) at S in
-        both-follows (logarithm f n (slot n w₀ 0)) (shiftedLogarithm f n (slot n w₀ 4) (slot n w₀ 0)) (slot n w2 0) s n moved p w₀ w2 w3 x (first .3) S′
+        let S′ : ReplacedBoth moved n (secondLogarithm f n (slot n w₀ 4) (slot n w₀ 0) (slot n w2 0)) p w2 w3 = rw (first .1, first .2) at S in
+        both-follows (logarithm f n (slot n w₀ 0)) (secondLogarithm f n (slot n w₀ 4) (slot n w₀ 0)) (slot n w2 0) s n moved p w₀ w2 w3 x (first .3) S′
 
     pub frechet-refused : (y : Refusal) → o ≡ Refused y → ReplacedBoth moved n (frechetLogM f n (slot n w₀ 0) (slot n w₀ 4)) (Refused y) w₀ w2
     unfolding frechetLogM

@@ -11,23 +11,23 @@ use Rattle.arithmetic_matrices.specs.Product.{mulM, scaleM, timesM, addM, zeroM
 use Rattle.arithmetic_matrices.specs.Norm.{frobenius}
 use Rattle.arithmetic_matrices.specs.Workspace.{Room, slot, store, member, Only}
 use Rattle.arithmetic_questions.specs.Result.{Result, done, refused, _>>=_, outcome, exit}
-use Rattle.arithmetic_questions.specs.Outputs.{Replaced}
+use Rattle.arithmetic_questions.specs.Kernels.{Replaced}
 use Rattle.arithmetic_questions.specs.declared.answer.Outcome.the-variants as outcomes
 use Rattle.arithmetic_questions.specs.declared.answer.Refusal.the-variants.{NotConverged}
 use Rattle.arithmetic_matrices.proofs.MatrixLaws.{square-le}
 use Rattle.arithmetic_matrices.proofs.ProductLaws.{length-scaleM}
 use Rattle.arithmetic_matrices.proofs.Slots.{only-refl, only-trans, only-more, slot-only, length-slot}
 use Rattle.arithmetic_matrices.proofs.States.{start, step-mult, step-copy, step-copy-in, step-call, step-times, step-add, step-zero, step-minus-identity, held-at, member-among}
-use Rattle.functions_exponential.specs.Iterate.{Step, running, stopped, after, verdict, ended}
-use Rattle.functions_exponential.specs.Roots.{newtonRoot}
-use Rattle.functions_exponential.specs.Logarithm.{isFar, Rooted, rooted, rootingStep, rooting, Series, seriesStep, seriesCoefficient, series, logarithm}
-use Rattle.functions_roots.specs.Passes.{asStep, tested, answered, OnePass, Passes, NewtonRoot}
-use Rattle.functions_logarithms.specs.Rooting.{rootedAs, asRooting, RootingPass, asTaken, RootsTaken, seriesIn, TermsAdded, SeriesSummed, LogarithmNear}
+use Rattle.functions_definitions.specs.Iterate.{Step, running, stopped, after, verdict, ended}
+use Rattle.functions_definitions.specs.Roots.{newtonRoot}
+use Rattle.functions_definitions.specs.Logarithm.{isFar, Rooted, rooted, rootingStep, rooting, Series, seriesStep, seriesCoefficient, series, logarithm}
+use Rattle.functions_roots.specs.Kernels.{asStep, tested, answered, OnePass, Passes, NewtonRoot}
+use Rattle.functions_logarithms.specs.Kernels.{rootedAs, asRooting, RootingPass, asTaken, RootsTaken, seriesIn, TermsAdded, SeriesSummed, LogarithmNear}
 use Rattle.functions_roots.specs.declared.pass.Pass.{Pass}
 use Rattle.functions_roots.specs.declared.pass.Pass.the-variants.{Running, Stopped, Failed}
 use Rattle.functions_logarithms.specs.declared.logarithm.Roots.{Roots}
 use Rattle.functions_logarithms.specs.declared.logarithm.Roots.the-variants.{Taken, Refused}
-use Rattle.functions_roots.proofs.IterateLaws.{goes-on, stops, fails, runs-out}
+use Rattle.functions_definitions.proofs.IterateLaws.{goes-on, stops, fails, runs-out}
 use Rattle.functions_roots.proofs.PassLaws.{step-tested, answers-ended, fails-ended}
 
 -- the slots that the logarithm changes, and those of the series

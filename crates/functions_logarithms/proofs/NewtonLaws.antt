@@ -11,7 +11,7 @@ use Rattle.arithmetic_floats.specs.Float.{one, epsilon}
 use Rattle.arithmetic_floats.specs.Root.{sqrtOf}
 use Rattle.arithmetic_floats.proofs.Constants.{one-bits, epsilon-bits}
 use Rattle.arithmetic_matrices.specs.Product.{meanM, diagonalM}
-use Rattle.arithmetic_matrices.specs.Norm.{difference, trace}
+use Rattle.arithmetic_matrices.specs.Norm.{normOfDifference, trace}
 use Rattle.arithmetic_matrices.specs.Workspace.{Room, slot, store, member, Only}
 use Rattle.arithmetic_matrices.proofs.MatrixLaws.{square-le}
 use Rattle.arithmetic_matrices.proofs.Slots.{slot-only, only-trans, only-more}
@@ -19,9 +19,9 @@ use Rattle.arithmetic_matrices.proofs.States.{start, step-mean, step-copy, step
 use Rattle.lu_factoring.specs.declared.LuOutcome.{LuOutcome}
 use Rattle.lu_factoring.specs.declared.LuOutcome.the-variants.{Factored, Singular}
 use Rattle.lu_factoring.specs.Solve.{division, whereFactored}
-use Rattle.functions_exponential.specs.Iterate.{after, verdict}
-use Rattle.functions_exponential.specs.Roots.{rootTolerance, newtonNext, newtonStep, newtonScale, newtonStart, newton}
-use Rattle.functions_roots.specs.Passes.{asStep, tested, OnePass, Passes, Quotient, NewtonMean, NewtonRoot}
+use Rattle.functions_definitions.specs.Iterate.{after, verdict}
+use Rattle.functions_definitions.specs.Roots.{rootTolerance, newtonNext, newtonStep, newtonScale, newtonStart, newton}
+use Rattle.functions_roots.specs.Kernels.{asStep, tested, OnePass, Passes, SlotQuotient, NewtonMean, NewtonRoot}
 use Rattle.functions_roots.specs.declared.pass.Pass.{Pass}
 use Rattle.functions_roots.specs.declared.pass.Pass.the-variants.{Failed}
 use Rattle.functions_roots.proofs.PassLaws.{step-tested}
@@ -34,7 +34,7 @@ abbrev pub root : ℕ → List Float → List Float
 root n w = slot n w 1
 
 module _ (f : Format) (n : ℕ) (w₀ : List Float) (r : Room n w₀) where
-  pub newton-mean-steps : (w1 w2 : List Float) (d : Float) (p : Pass) → w1 ≡ store w₀ 2 (meanM f n (slot n w₀ 1) (slot n w₀ 3)) → d ≡ difference f n (slot n w1 1) (slot n w1 2)
+  pub newton-mean-steps : (w1 w2 : List Float) (d : Float) (p : Pass) → w1 ≡ store w₀ 2 (meanM f n (slot n w₀ 1) (slot n w₀ 3)) → d ≡ normOfDifference f n (slot n w1 1) (slot n w1 2)
       → w2 ≡ store w1 1 (slot n w1 2) → p ≡ tested (lt d (rootTolerance f)) → NewtonMean f n p w₀ w2
   unfolding newtonNext
   newton-mean-steps w1 w2 d p e1 ed e2 ep =
@@ -42,13 +42,13 @@ module _ (f : Format) (n : ℕ) (w₀ : List Float) (r : Room n w₀) where
       let m = meanM f n x (slot n w₀ 3) in
       let s1 = step-mean n (r .order) f 1 3 2 (start (member (1 ∷ 2 ∷ [])) n r) e1 refl refl refl refl in
       let s2 = step-copy n (r .order) 2 1 s1 e2 refl refl refl in
-      let ed′ : d ≡ difference f n x m = ed ∙ (λ i. difference f n (held-at 1 n s1 refl i) (held-at 2 n s1 refl i)) in
+      let ed′ : d ≡ normOfDifference f n x m = ed ∙ (λ i. normOfDifference f n (held-at 1 n s1 refl i) (held-at 2 n s1 refl i)) in
       record {
         step = (λ i. asStep (ep i) (held-at 1 n s2 refl i)) ∙ step-tested (lt d (rootTolerance f)) m ∙ ap (λ (c : Float). verdict (lt c (rootTolerance f)) m) ed′;
         only = s2 .only;
       }
 
-  module _ (w1 w2 w3 : List Float) (o : LuOutcome) (e1 : w1 ≡ store w₀ 2 (slot n w₀ 1)) (e2 : w2 ≡ store w1 3 (slot n w1 0)) (Q : Quotient f n 3 o w2 w3) where
+  module _ (w1 w2 w3 : List Float) (o : LuOutcome) (e1 : w1 ≡ store w₀ 2 (slot n w₀ 1)) (e2 : w2 ≡ store w1 3 (slot n w1 0)) (Q : SlotQuotient f n 3 o w2 w3) where
     -- once the system is solved: x is as it was, and slot 3 holds y
     solved : (slot n w3 1 ≡ slot n w₀ 1) × (whereFactored o (slot n w3 3) ≡ division f n (slot n w₀ 1) (slot n w₀ 0)) × Only (member used) w₀ w3
     solved =

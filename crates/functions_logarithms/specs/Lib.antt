@@ -1,2 +1,1 @@
-pub mod Rooting
-pub mod Frechet
+pub mod Kernels

@@ -2,7 +2,7 @@
 ghost use lib.ListN.{length};
 ghost use lib.Ieee.{binary64};
 ghost use Rattle.arithmetic_questions.specs.Outputs.{OneOutputIn, OneOutputWith, TwoOutputsIn, TwoOutputsWith};
-ghost use Rattle.functions_exponential.specs.Calls.{frechetLogm, logm as logmOf};
+ghost use Rattle.functions_definitions.specs.Calls.{frechetLogm, logm as logmOf};
 use crate::log_derivative::frechet_logm_in;
 use crate::logarithm::logm_in;
 use arithmetic_matrices::workspace::copy_in;

@@ -1,8 +1,8 @@
 // The logarithm of a matrix and its derivative.
 mod calls;
-pub mod log_derivative;
+mod log_derivative;
 pub mod logarithm;
-pub mod newton;
+mod newton;
 
 pub use calls::frechet_logm;
 pub use calls::frechet_logm_with;

@@ -3,24 +3,18 @@ use mathlib.Core.Path.{_≡_, refl, sym, ap, _∙_}
 use mathlib.Core.List.{List, [], _∷_}
 use mathlib.Core.Bool.{Bool, true, false, cond}
 use Prim.Native.Nat.{ℕ, _^_}
-use lib.IntN.{ℤ, pos, negsuc}
+use lib.IntN.{ℤ}
 use lib.Count.{trailingZeros}
 use lib.Ieee.{Float, Format, binary64, ofBits, ofFields, odd, round, units, size}
 use Rattle.arithmetic_floats.specs.Float.{nearInteger, integerOf}
 use Rattle.arithmetic_matrices.specs.Product.{timesM}
 use Rattle.arithmetic_matrices.specs.Workspace.{Room, slot, store, member}
 use Rattle.arithmetic_questions.specs.Result.{Result}
-use Rattle.arithmetic_questions.specs.Outputs.{Replaced}
+use Rattle.arithmetic_questions.specs.Kernels.{Replaced}
 use Rattle.arithmetic_questions.specs.declared.answer.Outcome.{Outcome}
 use Rattle.arithmetic_matrices.proofs.Slots.{only-trans}
 use Rattle.arithmetic_matrices.proofs.States.{start, held-at, step-times, step-copy}
-use Rattle.arithmetic_questions.proofs.OutputLaws.{Late, late-bind}
-use Rattle.lu_factoring.specs.Solve.{inverse}
-use Rattle.functions_exponential.specs.Roots.{orNotConverged}
-use Rattle.functions_exponential.specs.Logarithm.{logarithm}
-use Rattle.functions_exponential.specs.Powers.{expM, wholePower, fractionalPower, isWhole, powerM}
-use Rattle.functions_exponential.proofs.ExponentialLaws.{late-expM}
-use Rattle.functions_roots.proofs.CallLaws.{late-solution, late-logarithm}
+use Rattle.functions_definitions.specs.Powers.{wholePower, fractionalPower, isWhole, powerM}
 
 -- ---- the exponent
 
@@ -53,21 +47,3 @@ multiple-replaced f n p g o w₀ w1 w2 w3 r e1 e2 R =
     rw (← held-at 0 n s2 refl) (record { outcome = R .outcome; result = R .result; only = only-trans (s2 .only) (R .only) })
 
 -- ---- refusals
-
-late-whole : (f : Format) (n : ℕ) (a : List Float) (e : ℤ) → Late (wholePower f n a e)
-unfolding wholePower
-late-whole f n a (pos e) = tt
-late-whole f n a (negsuc e) = late-bind (orNotConverged (inverse f n a)) _ (late-solution (inverse f n a)) (λ b. tt)
-
-late-fractional : (f : Format) (n : ℕ) (a : List Float) (p : Float) → Late (fractionalPower f n a p)
-unfolding fractionalPower
-late-fractional f n a p =
-    late-bind (logarithm f n a) _ (late-logarithm f n a) (λ l. late-bind (expM f n (timesM f n p l)) _ (late-expM f n (timesM f n p l)) (λ x. tt))
-
-pub late-power : (f : Format) (n : ℕ) (a : List Float) (p : Float) → Late (powerM f n a p)
-unfolding powerM
-late-power f n a p = go (isWhole p)
-  where
-    go : (b : Bool) → Late (cond b (wholePower f n a (integerOf binary64 p)) (fractionalPower f n a p))
-    go true = late-whole f n a (integerOf binary64 p)
-    go false = late-fractional f n a p

@@ -11,8 +11,8 @@ use Rattle.arithmetic_floats.proofs.Constants.{one-bits}
 use Rattle.arithmetic_floats.proofs.Order.{same-or-not}
 use Rattle.arithmetic_floats.proofs.Widths.{OverOnce, overs}
 use Rattle.arithmetic_matrices.specs.Workspace.{member}
-use Rattle.functions_exponential.specs.Trigonometric.{oneOver}
-use Rattle.functions_powers.specs.Series.{reciprocals}
+use Rattle.functions_definitions.specs.Trigonometric.{oneOver}
+use Rattle.functions_powers.specs.Kernels.{reciprocals}
 
 -- k is m, or one of the others
 pick : (P : ℕ → Type 0) (k m : ℕ) (b : Bool) → P m → (T b → P k) → T (eqb k m || b) → P k

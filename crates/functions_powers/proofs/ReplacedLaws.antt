@@ -6,7 +6,7 @@ use Prim.Native.Nat.{ℕ}
 use lib.Ieee.{Float}
 use Rattle.arithmetic_matrices.specs.Workspace.{slot, member, Only}
 use Rattle.arithmetic_questions.specs.Result.{Result, done, _>>=_, outcome, exit}
-use Rattle.arithmetic_questions.specs.Outputs.{Replaced}
+use Rattle.arithmetic_questions.specs.Kernels.{Replaced}
 use Rattle.arithmetic_questions.specs.declared.answer.Refusal.{Refusal}
 use Rattle.arithmetic_questions.specs.declared.answer.Outcome.{Outcome}
 use Rattle.arithmetic_questions.specs.declared.answer.Outcome.the-variants.{Done, Refused}

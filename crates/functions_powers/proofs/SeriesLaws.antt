@@ -15,10 +15,10 @@ use Rattle.arithmetic_matrices.proofs.ProductLaws.{accumulateM-comm, length-mul
 use Rattle.arithmetic_matrices.proofs.Slots.{picks, slot-store, room-kept, room-within, member-here, member-next, only-refl, only-trans, only-more, only-store, slot-only}
 use Rattle.arithmetic_matrices.proofs.States.{start, held-at, step-mult, step-identity, step-deduct, step-accumulate, step-minus-identity, step-scale, step-copy, step-call, member-among}
 use Rattle.arithmetic_questions.proofs.OutputLaws.{Late}
-use Rattle.functions_exponential.specs.Exponential.{scaled}
-use Rattle.functions_exponential.proofs.HalvingLaws.{halvings-late}
-use Rattle.functions_exponential.specs.Trigonometric.{oneOver, cosineTo6, cosineTo8, cosineBeside, sineTo7, cosineDoubled, sineDoubled, cosineAt, sineAt, trigonometricHalvings, cosM, sinM}
-use Rattle.functions_powers.specs.Series.{EvenPowers, Sixth, Beside, Eighth, OddPowers, Seventh, BothSeries, Doubled, CosineDoubled, BothDoubled, CosineAfter, BothAfter, CosineRun, SineRun}
+use Rattle.functions_definitions.specs.Exponential.{scaled}
+use Rattle.functions_definitions.proofs.HalvingLaws.{halvings-late}
+use Rattle.functions_definitions.specs.Trigonometric.{oneOver, cosineTo6, cosineTo8, cosineBeside, sineTo7, cosineDoubled, sineDoubled, cosineAt, sineAt, trigonometricHalvings, cosM, sinM}
+use Rattle.functions_powers.specs.Kernels.{EvenPowers, Sixth, Beside, Eighth, OddPowers, Seventh, BothSeries, Doubled, CosineDoubled, BothDoubled, CosineAfter, BothAfter, CosineRun, SineRun}
 
 -- a slot that a call does not change
 pub slot-kept : (n : ℕ) {w w′ : List Float} (ss : List ℕ) → Room n w → Only (member ss) w w′ → (s : ℕ) → picks (λ t. not (member ss t)) s 1 ≡ true → slot n w′ s ≡ slot n w s

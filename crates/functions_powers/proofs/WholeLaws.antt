@@ -21,18 +21,20 @@ use Rattle.lu_factoring.specs.declared.LuOutcome.the-variants.{Factored, Singul
 use Rattle.arithmetic_questions.specs.declared.answer.Refusal.the-variants.{NotConverged}
 use Rattle.arithmetic_questions.specs.declared.answer.Outcome.the-variants.{Done, Refused}
 use Rattle.arithmetic_matrices.specs.Product.{mulM, identityM, squared}
-use Rattle.arithmetic_matrices.specs.Workspace.{Room, slot, store, member, Only, Squared}
+use Rattle.arithmetic_matrices.specs.Workspace.{Room, slot, store, member, Only}
+use Rattle.arithmetic_matrices.specs.Kernels.{Squared}
 use Rattle.arithmetic_questions.specs.Result.{done, outcome, exit}
-use Rattle.arithmetic_questions.specs.Outputs.{Replaced}
+use Rattle.arithmetic_questions.specs.Kernels.{Replaced}
 use Rattle.arithmetic_floats.proofs.Order.{split}
 use Rattle.arithmetic_matrices.proofs.Slots.{only-refl, only-trans, only-more, room-kept}
 use Rattle.arithmetic_matrices.proofs.States.{State, held, upd, start, held-at, step-identity, step-mult, step-copy, member-among}
 use Rattle.lu_factoring.specs.Lu.{luOutcome}
-use Rattle.lu_factoring.specs.Solve.{divided, division, inverse, quotient, whereFactored}
+use Rattle.lu_factoring.specs.Kernels.{divided}
+use Rattle.lu_factoring.specs.Solve.{division, inverse, quotient, whereFactored}
 use Rattle.lu_factoring.proofs.DivisionLaws.{divided-slot, divided-only}
-use Rattle.functions_exponential.specs.Roots.{orNotConverged}
-use Rattle.functions_exponential.specs.Powers.{bitPower, wholePower}
-use Rattle.functions_powers.specs.Whole.{BitMultiplied, BitsMultiplied, AllMultiplied, BitPowered, isNegative, negativePower}
+use Rattle.functions_definitions.specs.Roots.{orNotConverged}
+use Rattle.functions_definitions.specs.Powers.{bitPower, wholePower, inversePower}
+use Rattle.functions_powers.specs.Kernels.{BitMultiplied, BitsMultiplied, AllMultiplied, BitPowered, isNegative}
 use Rattle.functions_powers.proofs.SeriesLaws.{slot-kept}
 
 -- ---- bits
@@ -183,7 +185,7 @@ pub plain : (e : ℤ) → SFits w64 e → isNegative e ≡ false → T (nonNeg (
 plain (pos k) h n = rw (toZ-ofZ w64 (pos k) h) (tt, record { fits = omega (arith, h .sfits) })
 plain (negsuc k) h n = let z : _≡_ {A = ℕ} 0 1 = cc in absurd (omega arith)
 
-pub whole-negative : (f : Format) (n : ℕ) (a : List Float) (e : ℤ) → isNegative e ≡ true → wholePower f n a e ≡ negativePower f n a (natAbs e)
+pub whole-negative : (f : Format) (n : ℕ) (a : List Float) (e : ℤ) → isNegative e ≡ true → wholePower f n a e ≡ inversePower f n a (natAbs e)
 unfolding wholePower
 whole-negative f n a (pos e) h = let z : _≡_ {A = ℕ} 0 1 = cc in absurd (omega arith)
 whole-negative f n a (negsuc e) h = refl

@@ -1,2 +1,1 @@
-pub mod Series
-pub mod Whole
+pub mod Kernels

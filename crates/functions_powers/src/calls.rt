@@ -2,7 +2,7 @@
 ghost use lib.ListN.{length};
 ghost use lib.Ieee.{binary64};
 ghost use Rattle.arithmetic_questions.specs.Outputs.{OneOutputIn, OneOutputWith};
-ghost use Rattle.functions_exponential.specs.Calls.{cosm as cosmOf, sinm as sinmOf, powm as powmOf};
+ghost use Rattle.functions_definitions.specs.Calls.{cosm as cosmOf, sinm as sinmOf, powm as powmOf};
 use crate::cosine::cosm_in;
 use crate::power::powm_in;
 use crate::sine::sinm_in;

@@ -1,9 +1,9 @@
 // Cosine, sine and powers of a matrix.
 mod calls;
-pub mod cosine;
-pub mod power;
-pub mod sine;
-pub mod whole;
+mod cosine;
+mod power;
+mod sine;
+mod whole;
 
 pub use calls::cosm;
 pub use calls::cosm_with;

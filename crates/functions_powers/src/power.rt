@@ -3,9 +3,8 @@
 ghost use mathlib.Core.List.{[], _∷_};
 ghost use lib.Ieee.{binary64};
 ghost use Rattle.arithmetic_matrices.specs.Workspace.{Room, slot};
-ghost use Rattle.arithmetic_questions.specs.Outputs.{Replaced};
-ghost use Rattle.functions_exponential.specs.Powers.{fractionalPower, powerM};
-ghost use Rattle.functions_powers.specs.Whole.{multipleExponential};
+ghost use Rattle.arithmetic_questions.specs.Kernels.{Replaced};
+ghost use Rattle.functions_definitions.specs.Powers.{fractionalPower, powerM, multipleExponential};
 use crate::whole::whole_power;
 use arithmetic_floats::float::integer_of;
 use arithmetic_floats::float::is_integer;

@@ -6,11 +6,11 @@ ghost use lib.ListN.{length};
 ghost use lib.Ieee.{binary64};
 ghost use Rattle.arithmetic_matrices.specs.Product.{identityM};
 ghost use Rattle.arithmetic_matrices.specs.Workspace.{Room, slot};
-ghost use Rattle.arithmetic_questions.specs.Outputs.{Replaced};
+ghost use Rattle.arithmetic_questions.specs.Kernels.{Replaced};
 ghost use Rattle.lu_factoring.specs.Solve.{inverse};
-ghost use Rattle.functions_exponential.specs.Roots.{orNotConverged};
-ghost use Rattle.functions_exponential.specs.Powers.{wholePower};
-ghost use Rattle.functions_powers.specs.Whole.{BitMultiplied, AllMultiplied, BitPowered, isNegative, negativePower};
+ghost use Rattle.functions_definitions.specs.Roots.{orNotConverged};
+ghost use Rattle.functions_definitions.specs.Powers.{wholePower, inversePower};
+ghost use Rattle.functions_powers.specs.Kernels.{BitMultiplied, AllMultiplied, BitPowered, isNegative};
 use arithmetic_matrices::workspace::copy;
 use arithmetic_matrices::workspace::identity;
 use arithmetic_matrices::workspace::mult;
@@ -84,7 +84,7 @@ fn inverse_in(w: &mut [f64], n: usize) -> Outcome
 // The power e of the inverse of the matrix in slot 0 takes its place.
 fn inverse_power(w: &mut [f64], n: usize, e: u64) -> Outcome
     requires { ⌜ Room n (now w) ⌝ }
-    ensures { λ r. ⌜ Replaced (0 ∷ 1 ∷ 2 ∷ []) n (negativePower binary64 n (slot n (now (w .entry)) 0) e) r (now (w .entry)) (now (w .exit)) ⌝ }
+    ensures { λ r. ⌜ Replaced (0 ∷ 1 ∷ 2 ∷ []) n (inversePower binary64 n (slot n (now (w .entry)) 0) e) r (now (w .entry)) (now (w .exit)) ⌝ }
 {
     match inverse_in(w, n) {
         Outcome::Refused(why) => Outcome::Refused(why),

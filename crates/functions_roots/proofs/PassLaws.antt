@@ -8,7 +8,7 @@ use lib.Dec.{eqb}
 use lib.Ieee.{Float, Format, sub}
 use Rattle.arithmetic_floats.specs.Root.{sqrtOf}
 use Rattle.arithmetic_matrices.specs.Matrix.{part, tab, item}
-use Rattle.arithmetic_matrices.specs.Norm.{sumOfSquares, frobenius, difference}
+use Rattle.arithmetic_matrices.specs.Norm.{sumOfSquares, frobenius, normOfDifference}
 use Rattle.arithmetic_questions.specs.Result.{done, refused}
 use Rattle.arithmetic_matrices.specs.Workspace.{Room, slot, member, Only}
 use Rattle.arithmetic_matrices.proofs.ProductLaws.{subM-parts}
@@ -16,13 +16,14 @@ use Rattle.arithmetic_matrices.proofs.Slots.{only-refl, only-trans}
 use Rattle.lu_factoring.specs.declared.LuOutcome.{LuOutcome}
 use Rattle.lu_factoring.specs.declared.LuOutcome.the-variants.{Factored, Singular}
 use Rattle.lu_factoring.specs.Lu.{luOutcome}
-use Rattle.lu_factoring.specs.Solve.{divided, standIn, quotient, division, whereFactored}
+use Rattle.lu_factoring.specs.Kernels.{divided}
+use Rattle.lu_factoring.specs.Solve.{standIn, quotient, division, whereFactored}
 use Rattle.lu_factoring.proofs.DivisionLaws.{divided-slot, divided-only}
-use Rattle.functions_exponential.specs.Iterate.{Step, running, after, verdict, ended}
-use Rattle.functions_roots.specs.Passes.{asStep, tested, answered, OnePass, Passes, Quotient}
+use Rattle.functions_definitions.specs.Iterate.{Step, running, after, verdict, ended}
+use Rattle.functions_roots.specs.Kernels.{asStep, tested, answered, OnePass, Passes, SlotQuotient}
 use Rattle.functions_roots.specs.declared.pass.Pass.{Pass}
 use Rattle.functions_roots.specs.declared.pass.Pass.the-variants.{Running, Stopped, Failed}
-use Rattle.functions_roots.proofs.IterateLaws.{goes-on, stops, fails, runs-out}
+use Rattle.functions_definitions.proofs.IterateLaws.{goes-on, stops, fails, runs-out}
 
 -- a pass that its test ends, as the definitions say it
 pub step-tested : {S : Type 0} (b : Bool) (x : S) → asStep (tested b) x ≡ verdict b x
@@ -30,8 +31,8 @@ step-tested true x = refl
 step-tested false x = refl
 
 -- the norm of the difference of two slots, from the sum of the squares
-pub root-of-squares : (f : Format) (n : ℕ) (w : List Float) (a b : ℕ) (s : Float) → s ≡ sumOfSquares f (n * n) (tab (n * n) (λ i. sub f (item w (256 * a + i)) (item w (256 * b + i)))) → sqrtOf f s ≡ difference f n (slot n w a) (slot n w b)
-unfolding difference frobenius slot
+pub root-of-squares : (f : Format) (n : ℕ) (w : List Float) (a b : ℕ) (s : Float) → s ≡ sumOfSquares f (n * n) (tab (n * n) (λ i. sub f (item w (256 * a + i)) (item w (256 * b + i)))) → sqrtOf f s ≡ normOfDifference f n (slot n w a) (slot n w b)
+unfolding normOfDifference frobenius slot
 root-of-squares f n w a b s e = ap (sqrtOf f) e ∙ ap (λ (x : List Float). sqrtOf f (sumOfSquares f (n * n) x)) (sym (subM-parts f n w (256 * a) (256 * b)))
 
 -- what an iteration that has a result ends with, and one that failed
@@ -78,7 +79,7 @@ module _ {S : Type 0} (g : ℕ → S → Step S) (read : List Float → S) (ss :
 
 -- ---- a system: the matrix in slot 2, the right-hand matrix in slot x
 
-pub quotient-slot : (f : Format) (n x : ℕ) (w w′ : List Float) (o : LuOutcome) → Room n w → x < 32 → eqb 2 x ≡ false → o ≡ luOutcome f n (part w 512 (n * n)) → w′ ≡ divided f n n 512 (256 * x) w o → Quotient f n x o w w′
+pub quotient-slot : (f : Format) (n x : ℕ) (w w′ : List Float) (o : LuOutcome) → Room n w → x < 32 → eqb 2 x ≡ false → o ≡ luOutcome f n (part w 512 (n * n)) → w′ ≡ divided f n n 512 (256 * x) w o → SlotQuotient f n x o w w′
 unfolding division slot
 quotient-slot f n x w w′ o r small e eo ew = record {
   result = go o (ap (λ (v : List Float). slot n v x) ew ∙ divided-slot f n 2 x w r small o e) ∙ ap (λ (z : LuOutcome). whereFactored z Q) eo;

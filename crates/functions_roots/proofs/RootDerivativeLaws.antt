@@ -15,12 +15,13 @@ use Rattle.arithmetic_matrices.specs.Matrix.{item, at, part, put, tab, column}
 use Rattle.arithmetic_matrices.specs.Product.{transposeM}
 use Rattle.arithmetic_matrices.specs.Workspace.{Room, slot, store, member, Only}
 use Rattle.arithmetic_questions.specs.Result.{Result, refused, done, _>>=_, outcome, exit}
-use Rattle.arithmetic_questions.specs.Outputs.{Both, Replaced, ReplacedBoth}
+use Rattle.arithmetic_questions.specs.Outputs.{Both}
+use Rattle.arithmetic_questions.specs.Kernels.{Replaced, ReplacedBoth}
 use Rattle.arithmetic_questions.specs.declared.answer.Outcome.{Outcome}
 use Rattle.arithmetic_questions.specs.declared.answer.Outcome.the-variants.{Done, Refused}
 use Rattle.arithmetic_questions.specs.declared.answer.Refusal.{Refusal}
 use Rattle.arithmetic_questions.specs.declared.answer.Refusal.the-variants.{NotConverged}
-use Rattle.arithmetic_questions.proofs.BothLaws.{call-done}
+use Rattle.arithmetic_questions.proofs.BothLaws.{call-done, both-refused, both-follows}
 use Rattle.arithmetic_matrices.proofs.MatrixLaws.{square-le, tab-is, length-grid, grid-is}
 use Rattle.arithmetic_matrices.proofs.PartLaws.{length-part, length-put, part-put, part-put-apart, returned}
 use Rattle.arithmetic_matrices.proofs.Slots.{only-trans, only-more, only-run, only-store, slot-only, slot-store}
@@ -28,14 +29,14 @@ use Rattle.arithmetic_matrices.proofs.States.{Held, start, step-store, step-tra
 use Rattle.lu_factoring.specs.declared.LuOutcome.{LuOutcome}
 use Rattle.lu_factoring.specs.declared.LuOutcome.the-variants.{Factored, Singular}
 use Rattle.lu_factoring.specs.Lu.{luOutcome, luFactors, luPivots, luAt}
-use Rattle.lu_factoring.specs.Solve.{permuted, forward, solved, solvedMatrix, divided, standIn, whereFactored}
+use Rattle.lu_factoring.specs.Solve.{permuted, forward, solved, solvedMatrix, standIn, whereFactored}
+use Rattle.lu_factoring.specs.Kernels.{divided}
 use Rattle.lu_factoring.proofs.LuLaws.{length-luAt}
 use Rattle.lu_factoring.proofs.SolveLaws.{length-permuted, length-forward, length-back}
 use Rattle.lu_factoring.proofs.DivisionLaws.{length-solvedMatrix}
-use Rattle.functions_exponential.specs.Roots.{orNotConverged, squareRoot}
-use Rattle.functions_exponential.specs.Derivatives.{sylvesterMatrix, sylvester, scalarDerivative, rootDerivative, frechetSqrtM}
-use Rattle.functions_roots.specs.Frechet.{systemSlots, SystemSolved, whereAccepted, derivedSlots, Derived}
-use Rattle.functions_roots.proofs.TwoCalls.{both-refused, both-follows}
+use Rattle.functions_definitions.specs.Roots.{orNotConverged, squareRoot}
+use Rattle.functions_definitions.specs.Derivatives.{sylvesterMatrix, sylvester, scalarDerivative, rootDerivative, frechetSqrtM}
+use Rattle.functions_roots.specs.Kernels.{systemSlots, SystemSolved, whereAccepted, derivedSlots, Derived}
 
 -- ---- the system is written
 

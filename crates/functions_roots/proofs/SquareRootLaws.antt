@@ -11,10 +11,10 @@ use borrow.Author.Tests.{ne-eqb}
 use Rattle.arithmetic_floats.specs.Root.{sqrtOf}
 use Rattle.arithmetic_matrices.specs.Matrix.{item, part, put, tab}
 use Rattle.arithmetic_matrices.specs.Product.{meanM, identityM}
-use Rattle.arithmetic_matrices.specs.Norm.{difference}
+use Rattle.arithmetic_matrices.specs.Norm.{normOfDifference}
 use Rattle.arithmetic_matrices.specs.Workspace.{Room, slot, store, member, Only}
 use Rattle.arithmetic_questions.specs.Result.{Result, done, refused, _>>=_, outcome, exit}
-use Rattle.arithmetic_questions.specs.Outputs.{Replaced}
+use Rattle.arithmetic_questions.specs.Kernels.{Replaced}
 use Rattle.arithmetic_questions.specs.declared.answer.Outcome.the-variants.{Done, Refused}
 use Rattle.arithmetic_questions.specs.declared.answer.Refusal.the-variants.{NotConverged}
 use Rattle.arithmetic_matrices.proofs.Slots.{only-trans, only-more, only-store, slot-store}
@@ -22,9 +22,9 @@ use Rattle.arithmetic_matrices.proofs.States.{start, step-mean, step-copy, step
 use Rattle.lu_factoring.specs.declared.LuOutcome.{LuOutcome}
 use Rattle.lu_factoring.specs.declared.LuOutcome.the-variants.{Factored, Singular}
 use Rattle.lu_factoring.specs.Solve.{division, inverse, whereFactored}
-use Rattle.functions_exponential.specs.Iterate.{after, verdict, ended}
-use Rattle.functions_exponential.specs.Roots.{rootTolerance, Pair, denmanBeaversNext, denmanBeaversStep, denmanBeavers, squareRoot}
-use Rattle.functions_roots.specs.Passes.{asStep, tested, answered, OnePass, Passes, Quotient, pairIn, Means, SecondInverse}
+use Rattle.functions_definitions.specs.Iterate.{after, verdict, ended}
+use Rattle.functions_definitions.specs.Roots.{rootTolerance, Pair, denmanBeaversNext, denmanBeaversStep, denmanBeavers, squareRoot}
+use Rattle.functions_roots.specs.Kernels.{asStep, tested, answered, OnePass, Passes, SlotQuotient, pairIn, Means, SecondInverse}
 use Rattle.functions_roots.specs.declared.pass.Pass.{Pass}
 use Rattle.functions_roots.specs.declared.pass.Pass.the-variants.{Failed}
 use Rattle.functions_roots.proofs.PassLaws.{step-tested, answers-ended, fails-ended}
@@ -38,7 +38,7 @@ later = 0 ∷ 1 ∷ 2 ∷ 4 ∷ 5 ∷ []
 
 module _ (f : Format) (n : ℕ) (w₀ : List Float) (r : Room n w₀) where
   pub means-steps : (w1 w2 w3 w4 : List Float) (d : Float) (p : Pass) → w1 ≡ store w₀ 2 (meanM f n (slot n w₀ 0) (slot n w₀ 3)) → w2 ≡ store w1 5 (meanM f n (slot n w1 1) (slot n w1 4))
-      → d ≡ difference f n (slot n w2 0) (slot n w2 2) → w3 ≡ store w2 0 (slot n w2 2) → w4 ≡ store w3 1 (slot n w3 5) → p ≡ tested (lt d (rootTolerance f)) → Means f n p w₀ w4
+      → d ≡ normOfDifference f n (slot n w2 0) (slot n w2 2) → w3 ≡ store w2 0 (slot n w2 2) → w4 ≡ store w3 1 (slot n w3 5) → p ≡ tested (lt d (rootTolerance f)) → Means f n p w₀ w4
   unfolding denmanBeaversNext
   means-steps w1 w2 w3 w4 d p e1 e2 ed e3 e4 ep =
       let y = meanM f n (slot n w₀ 0) (slot n w₀ 3) in
@@ -47,7 +47,7 @@ module _ (f : Format) (n : ℕ) (w₀ : List Float) (r : Room n w₀) where
       let s2 = step-mean n (r .order) f 1 4 5 s1 e2 refl refl refl refl in
       let s3 = step-copy n (r .order) 2 0 s2 e3 refl refl refl in
       let s4 = step-copy n (r .order) 5 1 s3 e4 refl refl refl in
-      let ed′ : d ≡ difference f n (slot n w₀ 0) y = ed ∙ (λ i. difference f n (held-at 0 n s2 refl i) (held-at 2 n s2 refl i)) in
+      let ed′ : d ≡ normOfDifference f n (slot n w₀ 0) y = ed ∙ (λ i. normOfDifference f n (held-at 0 n s2 refl i) (held-at 2 n s2 refl i)) in
       record {
         step =
             (λ i. asStep (ep i) (record { y = held-at 0 n s4 refl i; z = held-at 1 n s4 refl i }))
@@ -57,7 +57,7 @@ module _ (f : Format) (n : ℕ) (w₀ : List Float) (r : Room n w₀) where
       }
 
   -- 1 / y, and the means; or y is refused
-  module _ (w1 w2 w3 : List Float) (o : LuOutcome) (e1 : w1 ≡ store w₀ 2 (slot n w₀ 0)) (e2 : w2 ≡ store w1 4 (identityM n)) (Q : Quotient f n 4 o w2 w3) where
+  module _ (w1 w2 w3 : List Float) (o : LuOutcome) (e1 : w1 ≡ store w₀ 2 (slot n w₀ 0)) (e2 : w2 ≡ store w1 4 (identityM n)) (Q : SlotQuotient f n 4 o w2 w3) where
     second-solved : (pairIn n w3 ≡ pairIn n w₀) × (slot n w3 3 ≡ slot n w₀ 3) × (whereFactored o (slot n w3 4) ≡ inverse f n (slot n w₀ 0)) × Only (member later) w₀ w3
     unfolding inverse
     second-solved =
@@ -81,7 +81,7 @@ module _ (f : Format) (n : ℕ) (w₀ : List Float) (r : Room n w₀) where
         record { step = ap (denmanBeaversNext f n (pairIn n w₀) (some (slot n w₀ 3))) q; only = second-solved .3 }
 
   -- 1 / z, and the rest of the pass; or z is refused
-  module _ (w1 w2 w3 : List Float) (o : LuOutcome) (e1 : w1 ≡ store w₀ 2 (slot n w₀ 1)) (e2 : w2 ≡ store w1 3 (identityM n)) (Q : Quotient f n 3 o w2 w3) where
+  module _ (w1 w2 w3 : List Float) (o : LuOutcome) (e1 : w1 ≡ store w₀ 2 (slot n w₀ 1)) (e2 : w2 ≡ store w1 3 (identityM n)) (Q : SlotQuotient f n 3 o w2 w3) where
     first-solved : (pairIn n w3 ≡ pairIn n w₀) × (whereFactored o (slot n w3 3) ≡ inverse f n (slot n w₀ 1)) × Only (member used) w₀ w3
     unfolding inverse
     first-solved =

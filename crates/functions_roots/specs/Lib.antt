@@ -1,3 +1,2 @@
-pub mod Passes
-pub mod Frechet
 pub mod Number
+pub mod Kernels

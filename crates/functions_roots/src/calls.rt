@@ -2,7 +2,7 @@
 ghost use lib.ListN.{length};
 ghost use lib.Ieee.{binary64};
 ghost use Rattle.arithmetic_questions.specs.Outputs.{OneOutputIn, OneOutputWith, TwoOutputsIn, TwoOutputsWith};
-ghost use Rattle.functions_exponential.specs.Calls.{frechetSqrtm, sqrtm as sqrtmOf};
+ghost use Rattle.functions_definitions.specs.Calls.{frechetSqrtm, sqrtm as sqrtmOf};
 use crate::root_derivative::frechet_sqrtm_in;
 use crate::square_root::sqrtm_in;
 use arithmetic_matrices::workspace::copy_in;

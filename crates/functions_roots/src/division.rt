@@ -5,7 +5,7 @@ ghost use Prim.Native.Nat.{_<_};
 ghost use lib.Dec.{eqb};
 ghost use lib.Ieee.{binary64};
 ghost use Rattle.arithmetic_matrices.specs.Workspace.{Room};
-ghost use Rattle.functions_roots.specs.Passes.{Quotient};
+ghost use Rattle.functions_roots.specs.Kernels.{SlotQuotient};
 use lu_factoring::LuOutcome;
 use lu_factoring::room::pivot_room;
 use lu_systems::workspace::divide;
@@ -14,7 +14,7 @@ use lu_systems::workspace::divide;
 pub fn divide_slot(w: &mut [f64], x: usize, n: usize) -> LuOutcome
     requires { ⌜ Room n (now w) ⌝ }
     requires { ⌜ (x < 32) × (eqb 2 x ≡ false) ⌝ }
-    ensures { λ r. ⌜ Quotient binary64 n x r (now (w .entry)) (now (w .exit)) ⌝ }
+    ensures { λ r. ⌜ SlotQuotient binary64 n x r (now (w .entry)) (now (w .exit)) ⌝ }
 {
     let mut rows = pivot_room();
     divide(w, 512, 256 * x, n, n, &mut rows[..n])

@@ -3,9 +3,9 @@ mod calls;
 pub mod division;
 mod number;
 pub mod pass;
-pub mod root_derivative;
-pub mod square_root;
-pub mod sylvester;
+mod root_derivative;
+mod square_root;
+mod sylvester;
 
 pub use calls::frechet_sqrtm;
 pub use calls::frechet_sqrtm_with;

@@ -2,7 +2,7 @@
 ghost use lib.ListN.{length};
 ghost use lib.Ieee.{binary64};
 ghost use Rattle.arithmetic_questions.specs.Outputs.{OneOutput};
-ghost use Rattle.functions_exponential.specs.Calls.{sqrtm, frechetSqrtm};
+ghost use Rattle.functions_definitions.specs.Calls.{sqrtm, frechetSqrtm};
 ghost use Rattle.functions_roots.specs.Number.{TwoOutputs};
 use crate::root_derivative::scalar_derivative;
 use arithmetic_floats::root::sqrt;

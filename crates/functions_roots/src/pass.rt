@@ -2,8 +2,8 @@
 ghost use mathlib.Core.Path.{_≡_};
 ghost use lib.Ieee.{binary64, lt};
 ghost use Rattle.arithmetic_floats.specs.Root.{sqrtOf};
-ghost use Rattle.functions_exponential.specs.Roots.{rootTolerance};
-ghost use Rattle.functions_roots.specs.Passes.{tested, answered};
+ghost use Rattle.functions_definitions.specs.Roots.{rootTolerance};
+ghost use Rattle.functions_roots.specs.Kernels.{tested, answered};
 use arithmetic_floats::root::sqrt;
 
 // What a pass makes of its iteration.

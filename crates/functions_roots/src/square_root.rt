@@ -3,9 +3,9 @@
 ghost use mathlib.Core.List.{[], _∷_};
 ghost use lib.Ieee.{binary64};
 ghost use Rattle.arithmetic_matrices.specs.Workspace.{Room, slot};
-ghost use Rattle.arithmetic_questions.specs.Outputs.{Replaced};
-ghost use Rattle.functions_exponential.specs.Roots.{denmanBeaversStep, squareRoot};
-ghost use Rattle.functions_roots.specs.Passes.{OnePass, Passes, pairIn, Means, SecondInverse};
+ghost use Rattle.arithmetic_questions.specs.Kernels.{Replaced};
+ghost use Rattle.functions_definitions.specs.Roots.{denmanBeaversStep, squareRoot};
+ghost use Rattle.functions_roots.specs.Kernels.{OnePass, Passes, pairIn, Means, SecondInverse};
 use crate::division::divide_slot;
 use crate::pass::Pass;
 use crate::pass::answers;

@@ -6,9 +6,9 @@ ghost use lib.ListN.{length};
 ghost use lib.Ieee.{binary64};
 ghost use Rattle.arithmetic_floats.specs.Float.{+zero};
 ghost use Rattle.arithmetic_matrices.specs.Matrix.{tab, grid, at, put};
-ghost use Rattle.functions_exponential.specs.Kronecker.{blockRow};
-ghost use Rattle.functions_exponential.specs.Derivatives.{sylvesterEntry, sylvesterMatrix};
-ghost use Rattle.functions_roots.specs.Frechet.{addedWhere};
+ghost use Rattle.arithmetic_matrices.specs.Kernels.{blockRow};
+ghost use Rattle.functions_definitions.specs.Derivatives.{sylvesterEntry, sylvesterMatrix};
+ghost use Rattle.functions_roots.specs.Kernels.{addedWhere};
 use arithmetic_matrices::matrix::entry;
 
 // x, with v added to it where i is j.

@@ -6,7 +6,8 @@ use mathlib.Core.List.{List}
 use lib.Dec.{ltb}
 use lib.ListN.{length}
 use lib.Ieee.{Float, Format}
-use Rattle.arithmetic_matrices.specs.Matrix.{patch, part, put}
+use Rattle.arithmetic_matrices.specs.Kernels.{patch}
+use Rattle.arithmetic_matrices.specs.Matrix.{part, put}
 use Rattle.arithmetic_matrices.specs.Workspace.{store, cleared, Only}
 use Rattle.arithmetic_questions.specs.Result.{Result, outcome, exit, workspace}
 use Rattle.arithmetic_questions.specs.Answers.{numbered, reported, found}
@@ -19,9 +20,11 @@ use Rattle.arithmetic_matrices.proofs.PatchLaws.{patch-all}
 use Rattle.arithmetic_matrices.proofs.PartLaws.{part-put, put-put}
 use Rattle.arithmetic_matrices.proofs.Slots.{only-run, cleared-only}
 use Rattle.arithmetic_questions.proofs.AnswerLaws.{answer-passed, outcome-no, exit-no, workspace-no}
-use Rattle.lu_factoring.specs.Lu.{luAt, luPivot, luOutcome, luFactors, luPivots, columns, LuDoneIn}
+use Rattle.lu_factoring.specs.Lu.{luAt, luPivot, luOutcome, luFactors, luPivots}
+use Rattle.lu_factoring.specs.Kernels.{columnsDone, LuDoneIn}
 use Rattle.lu_factoring.specs.Solve.{standIn}
-use Rattle.lu.specs.Calls.{Factorisation, factorised, compute, computeCall, luReport, FactoredCopy, Computing, Computed}
+use Rattle.lu.specs.Calls.{Factorisation, factorised, compute, computeCall, Computed}
+use Rattle.lu.specs.Kernels.{luReport, FactoredCopy, Computing}
 use Rattle.lu_factoring.specs.declared.LuOutcome.{LuOutcome}
 use Rattle.lu_factoring.specs.declared.LuOutcome.the-variants.{Factored, Singular}
 use Rattle.lu_factoring.proofs.LuLaws.{length-luAt}
@@ -42,16 +45,16 @@ module _ (f : Format) (n : ℕ) (a w : List Float) (size : length a ≡ n * n) (
       let c : part w1 0 (n * n) ≡ a = ap (λ (l : List Float). part l 0 (n * n)) e ∙ copied in
       record {
         outcome = d .outcome ∙ ap (luOutcome f n) c;
-        factors = d .factors ∙ (λ i. put (e i) 0 (luAt f n (c i) (columns n r))) ∙ replaced (luAt f n a (columns n r)) (length-luAt f n a (columns n r) size);
-        pivots = d .pivots ∙ ap (λ (l : List Float). patch 0 (columns n r) (luPivot f n l) ps) c;
+        factors = d .factors ∙ (λ i. put (e i) 0 (luAt f n (c i) (columnsDone n r))) ∙ replaced (luAt f n a (columnsDone n r)) (length-luAt f n a (columnsDone n r) size);
+        pivots = d .pivots ∙ ap (λ (l : List Float). patch 0 (columnsDone n r) (luPivot f n l) ps) c;
       }
 
   module _ (rows : List ℕ) (w1 : List Float) (rows1 : List ℕ) (r : LuOutcome) (d : FactoredCopy f n a w rows w1 rows1 r) (few : n * n ≤ 4096) where
     within : Only (λ s. ltb s 32) w w1
     unfolding store
     within =
-        let e : length (luAt f n a (columns n r)) ≡ n * n = length-luAt f n a (columns n r) size in
-        rw (d .factors) (only-run (λ s. ltb s 32) w 0 16 (luAt f n a (columns n r)) refl (omega arith))
+        let e : length (luAt f n a (columnsDone n r)) ≡ n * n = length-luAt f n a (columnsDone n r) size in
+        rw (d .factors) (only-run (λ s. ltb s 32) w 0 16 (luAt f n a (columnsDone n r)) refl (omega arith))
 
     -- every column passes: the factors and the pivots are copied out
     pub computing-all : (fs fs′ : List Float) (ps ps′ : List ℕ) → r ≡ Factored → length rows ≡ n → length fs ≡ n * n → fs′ ≡ part w1 0 (length fs) → ps′ ≡ rows1
@@ -72,16 +75,16 @@ module _ (f : Format) (n : ℕ) (a w : List Float) (size : length a ≡ n * n) (
 
 -- ---- compute
 
-module _ (f : Format) (rows columns : ℕ) (a : List Float) (fs : List Float) (ps : List ℕ) (w : List Float) (q : Question)
-    (h : found q ≡ asked ofCompute (computeCall rows columns a ps (length fs) (length w))) (o : Outcome) where
+module _ (f : Format) (rows columnsDone : ℕ) (a : List Float) (fs : List Float) (ps : List ℕ) (w : List Float) (q : Question)
+    (h : found q ≡ asked ofCompute (computeCall rows columnsDone a ps (length fs) (length w))) (o : Outcome) where
   whole : Result Factorisation
   whole = factorised (luOutcome f rows a) (record { factors = luFactors f rows a; pivotRows = luPivots f rows a })
 
   -- a question refuses: all is as it was lent
-  pub compute-refused : (x : Refusal) → q ≡ No x → reported o ≡ numbered x → Computed (compute f rows columns a ps (length fs) (length w)) o fs fs ps ps w w
+  pub compute-refused : (x : Refusal) → q ≡ No x → reported o ≡ numbered x → Computed (compute f rows columnsDone a ps (length fs) (length w)) o fs fs ps ps w w
   unfolding compute whole
   compute-refused x e k =
-      let c = computeCall rows columns a ps (length fs) (length w) in
+      let c = computeCall rows columnsDone a ps (length fs) (length w) in
       record {
         outcome = k ∙ sym (outcome-no ofCompute c whole q h x e);
         factors = sym (exit-no ofCompute c whole q h x e (λ (l : Factorisation). l .factors) fs);
@@ -91,10 +94,10 @@ module _ (f : Format) (rows columns : ℕ) (a : List Float) (fs : List Float) (p
 
   -- none does: LU decides
   pub compute-done : (fs′ : List Float) (ps′ : List ℕ) (w1 w2 : List Float) (r : LuOutcome) → q ≡ Passed → 8192 ≤ length w → Computing f rows a fs fs′ ps ps′ w w1 r
-      → w2 ≡ cleared w1 → reported o ≡ luReport r → Computed (compute f rows columns a ps (length fs) (length w)) o fs fs′ ps ps′ w w2
+      → w2 ≡ cleared w1 → reported o ≡ luReport r → Computed (compute f rows columnsDone a ps (length fs) (length w)) o fs fs′ ps ps′ w w2
   unfolding compute whole outcome exit workspace
   compute-done fs′ ps′ w1 w2 r e room d v k =
-      let c = computeCall rows columns a ps (length fs) (length w) in
+      let c = computeCall rows columnsDone a ps (length fs) (length w) in
       rw (answer-passed ofCompute c whole q h e)
       (go (luOutcome f rows a) (d .factors ∙ ap (λ (z : LuOutcome). standIn z (luFactors f rows a) fs) (d .outcome)) (d .pivots ∙ ap (λ (z : LuOutcome). standIn z (luPivots f rows a) ps) (d .outcome)) (k ∙ ap luReport (d .outcome)))
     where

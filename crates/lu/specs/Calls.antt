@@ -2,17 +2,15 @@
 use Prim.Native.Nat.{ℕ}
 use mathlib.Core.Path.{_≡_}
 use mathlib.Core.List.{List, [], _∷_}
-use lib.Dec.{ltb}
 use lib.Ieee.{Float, Format}
 use Rattle.arithmetic_floats.specs.Float.{+zero}
 use Rattle.arithmetic_questions.specs.Result.{Result, refused, done, exit, outcome as outcomeOf, workspace as workspaceOf}
 use Rattle.arithmetic_questions.specs.Answers.{reported}
 use Rattle.arithmetic_questions.specs.declared.answer.Outcome.{Outcome}
-use Rattle.arithmetic_matrices.specs.Workspace.{Only}
 use Rattle.arithmetic_questions.specs.Questions.{Call, answer, ofCompute, ofSolve, ofDeterminant}
-use Rattle.arithmetic_matrices.specs.Matrix.{patch, put}
-use Rattle.lu_factoring.specs.Lu.{luAt, luPivot, luOutcome, luFactors, luPivots, columns}
-use Rattle.lu_factoring.specs.Solve.{standIn, solvedMatrix, determinantOf}
+use Rattle.lu_factoring.specs.Lu.{luOutcome, luFactors, luPivots}
+use Rattle.lu_factoring.specs.Kernels.{columnsDone}
+use Rattle.lu_factoring.specs.Solve.{solvedMatrix, determinantOf}
 use Rattle.lu_factoring.specs.declared.LuOutcome.{LuOutcome}
 use Rattle.lu_factoring.specs.declared.LuOutcome.the-variants.{Factored, Singular}
 
@@ -82,24 +80,6 @@ unfoldable pub determinant : Format → ℕ → ℕ → List Float → List ℕ 
 determinant f r c F ps = answer ofDeterminant (determinantCall r c F ps) (done 0 (determinantOf f r F ps))
 
 -- ---- a copy of a matrix factored in a workspace
-
--- r is the outcome for the n by n matrix a; w' and ps' are the workspace and the pivots after it
-pub record FactoredCopy (f : Format) (n : ℕ) (a w : List Float) (ps : List ℕ) (w' : List Float) (ps' : List ℕ) (r : LuOutcome) : Type 0 where
-  pub outcome : r ≡ luOutcome f n a
-  pub factors : w' ≡ put w 0 (luAt f n a (columns n r))
-  pub pivots : ps' ≡ patch 0 (columns n r) (luPivot f n a) ps
-
--- the same with the factors and the pivots written to lists of their own where every column passes
-pub record Computing (f : Format) (n : ℕ) (a fs fs' : List Float) (ps ps' : List ℕ) (w w' : List Float) (r : LuOutcome) : Type 0 where
-  pub outcome : r ≡ luOutcome f n a
-  pub factors : fs' ≡ standIn r (luFactors f n a) fs
-  pub pivots : ps' ≡ standIn r (luPivots f n a) ps
-  pub only : Only (λ s. ltb s 32) w w'
-
--- what `compute` reports of an outcome
-abbrev pub luReport : LuOutcome → Result (Unit {0})
-luReport Factored = done 0 tt
-luReport (Singular k) = refused 14 k 0
 
 -- what `compute` leaves of its factors, pivots and workspace, where its definition gives x and its answer has the outcome o
 pub record Computed (x : Result Factorisation) (o : Outcome) (fs fs' : List Float) (ps ps' : List ℕ) (w w' : List Float) : Type 0 where

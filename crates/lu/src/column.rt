@@ -3,7 +3,7 @@ ghost use mathlib.Core.Path.{_≡_};
 ghost use Prim.Native.Nat.{_*_, _<_};
 ghost use lib.ListN.{length};
 ghost use Rattle.arithmetic_matrices.specs.Matrix.{column};
-ghost use Rattle.lu_factoring.specs.Solve.{withColumn};
+ghost use Rattle.lu_factoring.specs.Kernels.{withColumn};
 use arithmetic_matrices::matrix::entry;
 use arithmetic_matrices::matrix::set_entry;
 

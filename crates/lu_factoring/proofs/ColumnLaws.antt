@@ -11,13 +11,15 @@ use lib.ListN.{length, getD, set, length-set}
 use lib.Seq.{ext-getD}
 use lib.Ieee.{Float, nan, Format}
 use borrow.Author.Tests.{lt-ltb, le-ltb, eq-eqb, ne-eqb}
-use Rattle.arithmetic_matrices.specs.Matrix.{at, grid, patch, part, Apart, item, column, put}
+use Rattle.arithmetic_matrices.specs.Matrix.{at, grid, part, Apart, item, column, put}
+use Rattle.arithmetic_matrices.specs.Kernels.{patch}
 use Rattle.arithmetic_floats.proofs.Order.{split, same-or-not}
 use Rattle.arithmetic_matrices.proofs.MatrixLaws.{index-lt, length-tab, getD-tab, length-grid, at-grid, grid-is, at-set-same, at-set-other}
 use Rattle.arithmetic_matrices.proofs.PatchLaws.{patch-more, patch-all}
 use Rattle.arithmetic_matrices.proofs.PartLaws.{length-part, part-put, part-put-apart, apart-sym}
-use Rattle.lu_factoring.specs.Lu.{luAt, luFactors, luPivot, luPivots, columns, LuDoneIn}
-use Rattle.lu_factoring.specs.Solve.{withColumn, solved, solvedMatrix, divided}
+use Rattle.lu_factoring.specs.Lu.{luAt, luFactors, luPivot, luPivots}
+use Rattle.lu_factoring.specs.Kernels.{columnsDone, LuDoneIn, withColumn, divided}
+use Rattle.lu_factoring.specs.Solve.{solved, solvedMatrix}
 use Rattle.lu_factoring.proofs.LuLaws.{pivots-in, length-luAt}
 use Rattle.lu_factoring.specs.declared.LuOutcome.{LuOutcome}
 use Rattle.lu_factoring.specs.declared.LuOutcome.the-variants.{Factored, Singular}
@@ -130,11 +132,11 @@ module _ (g : Format) (n f : ℕ) (w : List Float) (ps : List ℕ) (w1 : List Fl
   -- where all columns pass, the factors and the pivots
   pub in-factors : r ≡ Factored → w1 ≡ put w f (luFactors g n (part w f (n * n)))
   unfolding luFactors
-  in-factors all = d .factors ∙ ap (λ (o : LuOutcome). put w f (luAt g n (part w f (n * n)) (columns n o))) all
+  in-factors all = d .factors ∙ ap (λ (o : LuOutcome). put w f (luAt g n (part w f (n * n)) (columnsDone n o))) all
 
   pub in-pivots : r ≡ Factored → length ps ≡ n → ps1 ≡ luPivots g n (part w f (n * n))
   unfolding luPivots
-  in-pivots all e = d .pivots ∙ ap (λ (o : LuOutcome). patch 0 (columns n o) (luPivot g n (part w f (n * n))) ps) all ∙ patch-all 0 n (luPivot g n (part w f (n * n))) ps e
+  in-pivots all e = d .pivots ∙ ap (λ (o : LuOutcome). patch 0 (columnsDone n o) (luPivot g n (part w f (n * n))) ps) all ∙ patch-all 0 n (luPivot g n (part w f (n * n))) ps e
 
   pub in-rows : r ≡ Factored → length ps ≡ n → (k : ℕ) → k < n → getD ps1 k 0 < n
   in-rows all e k h = rw (in-pivots all e) (pivots-in g n (part w f (n * n)) k h .1)
@@ -151,4 +153,4 @@ module _ (g : Format) (n f : ℕ) (w : List Float) (ps : List ℕ) (w1 : List Fl
 
   pub divided-none : (m x k : ℕ) → r ≡ Singular k → w1 ≡ divided g n m f x w (Singular k)
   unfolding divided
-  divided-none m x k e = d .factors ∙ ap (λ (o : LuOutcome). put w f (luAt g n (part w f (n * n)) (columns n o))) e
+  divided-none m x k e = d .factors ∙ ap (λ (o : LuOutcome). put w f (luAt g n (part w f (n * n)) (columnsDone n o))) e

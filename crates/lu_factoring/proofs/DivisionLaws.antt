@@ -15,7 +15,8 @@ use Rattle.arithmetic_matrices.proofs.MatrixLaws.{square-le, length-grid}
 use Rattle.arithmetic_matrices.proofs.PartLaws.{part-put, part-put-apart, length-put, length-part}
 use Rattle.arithmetic_matrices.proofs.Slots.{only-trans, only-store, slots-apart, eqb-swap, member-here, member-next}
 use Rattle.lu_factoring.specs.Lu.{luFactors, luPivots, luAt}
-use Rattle.lu_factoring.specs.Solve.{standIn, divided, quotient, solvedMatrix}
+use Rattle.lu_factoring.specs.Solve.{standIn, quotient, solvedMatrix}
+use Rattle.lu_factoring.specs.Kernels.{divided}
 use Rattle.lu_factoring.proofs.LuLaws.{length-luAt}
 
 pub length-solvedMatrix : (f : Format) (n m : ℕ) (F : List Float) (ps : List ℕ) (b : List Float) → length (solvedMatrix f n m F ps b) ≡ n * m

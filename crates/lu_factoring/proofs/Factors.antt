@@ -13,9 +13,8 @@ use lib.Ieee.{Float, nan, inf, fin, Format, up, down, sub, mul, div, lt, le}
 use lib.Ieee.Fits.{eq→eqb}
 use lib.Ieee.Bits.{is-false, is-true}
 use lib.Arith.{lt-of-le-ne}
-use Rattle.arithmetic_floats.specs.Float.{magnitude, one}
+use Rattle.arithmetic_floats.specs.Float.{magnitude, one, Finite}
 use Rattle.arithmetic_matrices.specs.Matrix.{at}
-use Rattle.arithmetic_floats.specs.Float.{Fin}
 use Rattle.arithmetic_floats.proofs.Order.{split}
 use Rattle.arithmetic_floats.proofs.Zero.{zeroOf, Zero, mul-zero-left, sub-zeros}
 use Rattle.arithmetic_matrices.proofs.MatrixLaws.{at-grid}
@@ -98,7 +97,7 @@ entry-left f k i j x l d u h =
     both true = refl
     both false = refl
 
-entry-zero : (f : Format) (k i j : ℕ) (x l d u : Float) → Zero x → Zero l → Fin (mul f l (div f one d)) → (k < j → Fin (mul f (mul f l (div f one d)) u)) → Zero (entryAfter f k i j x l d u)
+entry-zero : (f : Format) (k i j : ℕ) (x l d u : Float) → Zero x → Zero l → Finite (mul f l (div f one d)) → (k < j → Finite (mul f (mul f l (div f one d)) u)) → Zero (entryAfter f k i j x l d u)
 entry-zero f k i j x l d u X L m p = go (ltb k i) (ltb j k) (eqb j k) (nltb→le j k) (λ t e. T-not (eqb j k) t (eq→eqb e))
   where
     mz : Zero (mul f l (div f one d))

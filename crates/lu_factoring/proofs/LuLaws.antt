@@ -13,12 +13,14 @@ use lib.Ieee.{Float, nan, Format, lt, le, mul, sub, div}
 use lib.Seq.{getD-set-other}
 use borrow.Author.Tests.{lt-ltb, le-ltb, le-leb, lt-leb, eq-eqb, ne-eqb}
 use Rattle.arithmetic_floats.specs.Float.{magnitude, one}
-use Rattle.arithmetic_matrices.specs.Matrix.{at, withRow, rowTo, rowsTo, patch, part, put}
+use Rattle.arithmetic_matrices.specs.Matrix.{at, part, put}
+use Rattle.arithmetic_matrices.specs.Kernels.{withRow, rowTo, rowsTo, patch}
 use Rattle.arithmetic_floats.proofs.Order.{split, same-or-not}
 use Rattle.arithmetic_matrices.proofs.MatrixLaws.{getD-tab, index-lt, length-grid, at-set-same, at-set-other}
 use Rattle.arithmetic_matrices.proofs.PatchLaws.{patch-is, patch-more, patch-in, patch-below, patch-above, length-patch, row-none, row-more, row-skip, row-right, row-above, rows-none, rows-skip, rows-more, rows-all, rows-new, rows-old}
 use Rattle.arithmetic_matrices.proofs.PartLaws.{lent, returned, length-part}
-use Rattle.lu_factoring.specs.Lu.{pivotAmong, exchange, swapRows, reduced, subtracted, eliminated, tolerance, pivotRefused, pivotRow, luAt, luPivot, luFrom, luOutcome, luPivots, columns, LuDone, LuDoneIn, multiplier}
+use Rattle.lu_factoring.specs.Lu.{pivotAmong, exchange, swapRows, reduced, eliminated, tolerance, pivotRefused, pivotRow, luAt, luPivot, luFrom, luOutcome, luPivots, multiplier}
+use Rattle.lu_factoring.specs.Kernels.{subtracted, columnsDone, LuDone, LuDoneIn}
 use Rattle.lu_factoring.specs.declared.LuOutcome.{LuOutcome}
 use Rattle.lu_factoring.specs.declared.LuOutcome.the-variants.{Factored, Singular}
 use native.Mathlib.Numerals.{add-one}
@@ -214,12 +216,12 @@ pub done-in : (f : Format) (n off : ℕ) (w : List Float) (ps : List ℕ) (m : L
     → LuDone f n (take (off + n * n - off) (drop off w)) ps m ps' r → LuDoneIn f n off w ps (putMid off (off + n * n - off) w m) ps' r
 done-in f n off w ps m ps' r h d =
     let e = lent w off (n * n) h in
-    let e' : m ≡ luAt f n (part w off (n * n)) (columns n r) = d .factors ∙ ap (λ (a : List Float). luAt f n a (columns n r)) e in
-    let size : length m ≡ n * n = ap length e' ∙ length-luAt f n (part w off (n * n)) (columns n r) (length-part w off (n * n)) in
+    let e' : m ≡ luAt f n (part w off (n * n)) (columnsDone n r) = d .factors ∙ ap (λ (a : List Float). luAt f n a (columnsDone n r)) e in
+    let size : length m ≡ n * n = ap length e' ∙ length-luAt f n (part w off (n * n)) (columnsDone n r) (length-part w off (n * n)) in
     record {
       outcome = d .outcome ∙ ap (luOutcome f n) e;
       factors = returned w m off (n * n) size h ∙ ap (put w off) e';
-      pivots = d .pivots ∙ ap (λ (a : List Float). patch 0 (columns n r) (luPivot f n a) ps) e;
+      pivots = d .pivots ∙ ap (λ (a : List Float). patch 0 (columnsDone n r) (luPivot f n a) ps) e;
     }
 
 -- the pivot of column k is a row from k to n - 1

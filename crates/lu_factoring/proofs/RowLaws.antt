@@ -13,7 +13,8 @@ use Rattle.arithmetic_floats.proofs.Order.{split, same-or-not}
 use Rattle.arithmetic_matrices.proofs.MatrixLaws.{length-tab, getD-tab, tab-cong, tab-is, length-grid, at-grid, grid-cong, grid-is, item-column, index-lt, row-end, row-lt, column-lt}
 use Rattle.arithmetic_matrices.proofs.PartLaws.{length-part, getD-part, at-part, length-put, put-all, put-part, put-put, part-put, part-put-apart, apart-sym, put-tab-more, getD-put-before, getD-put-after, getD-put-in, read-apart, read-next}
 use Rattle.lu_factoring.specs.Lu.{exchange, swapRows}
-use Rattle.lu_factoring.specs.Solve.{eachColumn, swapItems}
+use Rattle.lu_factoring.specs.Kernels.{eachColumn}
+use Rattle.lu_factoring.specs.Solve.{swapItems}
 use Rattle.lu_factoring.proofs.LuLaws.{exchange-in, exchange-first, exchange-second, exchange-other}
 
 -- ---- stores to a list with a part replaced

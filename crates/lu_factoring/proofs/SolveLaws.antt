@@ -12,11 +12,13 @@ use lib.ListN.{length, getD, set, length-set}
 use lib.Seq.{getD-set-same, getD-set-other}
 use lib.Ieee.{Float, nan, Format, mul, sub, div}
 use borrow.Author.Tests.{lt-ltb, le-ltb, eq-eqb, ne-eqb}
-use Rattle.arithmetic_matrices.specs.Matrix.{at, patch, item}
+use Rattle.arithmetic_matrices.specs.Matrix.{at, item}
+use Rattle.arithmetic_matrices.specs.Kernels.{patch}
 use Rattle.arithmetic_floats.proofs.Order.{split, same-or-not}
 use Rattle.arithmetic_matrices.proofs.MatrixLaws.{length-tab, tab-is}
 use Rattle.arithmetic_matrices.proofs.PatchLaws.{length-patch, patch-more, patch-in, patch-below, patch-above}
-use Rattle.lu_factoring.specs.Solve.{swapItems, permuted, forwardStep, forward, backStep, back, solved, swaps, product, lowered}
+use Rattle.lu_factoring.specs.Solve.{swapItems, permuted, forwardStep, forward, backStep, back, solved, swaps, signedProduct}
+use Rattle.lu_factoring.specs.Kernels.{lowered}
 use Rattle.lu_factoring.proofs.LuLaws.{exchange-first, exchange-second, exchange-other}
 
 -- ---- swaps
@@ -150,8 +152,8 @@ pub swaps-turn : (ps : List ℕ) (k c c1 p : ℕ) → c ≡ swaps ps k → p ≡
 unfolding swaps
 swaps-turn ps k c c1 p e ep b t e1 = e1 ∙ rw (add-one, ← ep, t, e)
 
-pub product-turn : (f : Format) (n : ℕ) (F : List Float) (s d d1 v : Float) (k : ℕ) → d ≡ product f n F s k → v ≡ at n F k k → d1 ≡ mul f d v → d1 ≡ product f n F s (k + 1)
-unfolding product
+pub product-turn : (f : Format) (n : ℕ) (F : List Float) (s d d1 v : Float) (k : ℕ) → d ≡ signedProduct f n F s k → v ≡ at n F k k → d1 ≡ mul f d v → d1 ≡ signedProduct f n F s (k + 1)
+unfolding signedProduct
 product-turn f n F s d d1 v k e ev e1 = e1 ∙ rw (e, ev, add-one)
 
 -- ---- the solution

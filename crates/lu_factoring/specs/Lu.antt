@@ -3,15 +3,14 @@
 -- L, without its unit diagonal, and U share the list. The column index k, the rows and the pivots count from 0.
 -- Two things differ from the book and are the source's: a multiplier is the entry times the rounded reciprocal of the pivot, and a column whose pivot
 -- has a magnitude of at most epsilon * n is refused. Assumes nothing.
-use Prim.Native.Nat.{ℕ, zero, suc, _+_, _-_, _*_}
+use Prim.Native.Nat.{ℕ, zero, suc, _+_, _-_}
 use mathlib.Core.Bool.{Bool, cond}
 use mathlib.Core.List.{List}
 use lib.IntN.{pos}
-use lib.Dec.{leb, ltb, eqb}
+use lib.Dec.{ltb, eqb}
 use lib.Ieee.{Float, Format, mul, sub, div, lt, le, ofInt}
-use mathlib.Core.Path.{_≡_}
 use Rattle.arithmetic_floats.specs.Float.{magnitude, one, epsilon}
-use Rattle.arithmetic_matrices.specs.Matrix.{tab, at, grid, patch, part, put}
+use Rattle.arithmetic_matrices.specs.Matrix.{tab, at, grid}
 use Rattle.lu_factoring.specs.declared.LuOutcome.{LuOutcome}
 use Rattle.lu_factoring.specs.declared.LuOutcome.the-variants.{Factored, Singular}
 
@@ -58,10 +57,6 @@ reduced f n k t a i j =
     (cond (eqb j k) (multiplier f n k t a i)
     (sub f (at n a i j) (mul f (multiplier f n k t a i) (at n a k j))))
 
--- the part of that to the right of column k, x being the multiplier
-unfoldable pub subtracted : Format → ℕ → ℕ → ℕ → Float → List Float → ℕ → Float
-subtracted f n k i x a j = cond (leb j k) (at n a i j) (sub f (at n a i j) (mul f x (at n a k j)))
-
 unfoldable pub eliminated : Format → ℕ → ℕ → List Float → List Float
 unfolding reduced
 eliminated f n k a = grid n n (λ i j. cond (ltb k i) (reduced f n k (div f one (at n a k k)) a i j) (at n a i j))
@@ -96,21 +91,3 @@ luFactors f n a = luAt f n a n
 unfoldable pub luPivots : Format → ℕ → List Float → List ℕ
 unfolding luPivot
 luPivots f n a = tab n (luPivot f n a)
-
--- how many columns are done: all n, or those before the one that was refused
-abbrev pub columns : ℕ → LuOutcome → ℕ
-columns n Factored = n
-columns n (Singular k) = k
-
--- What factoring the n by n matrix a ends with: the outcome r, the matrix a' after the columns that passed, and their pivots in ps', a list whose other
--- elements are those of ps.
-pub record LuDone (f : Format) (n : ℕ) (a : List Float) (ps : List ℕ) (a' : List Float) (ps' : List ℕ) (r : LuOutcome) : Type 0 where
-  pub outcome : r ≡ luOutcome f n a
-  pub factors : a' ≡ luAt f n a (columns n r)
-  pub pivots : ps' ≡ patch 0 (columns n r) (luPivot f n a) ps
-
--- The same where the matrix stands in a longer list w from index off: the rest of w is unchanged.
-pub record LuDoneIn (f : Format) (n off : ℕ) (w : List Float) (ps : List ℕ) (w' : List Float) (ps' : List ℕ) (r : LuOutcome) : Type 0 where
-  pub outcome : r ≡ luOutcome f n (part w off (n * n))
-  pub factors : w' ≡ put w off (luAt f n (part w off (n * n)) (columns n r))
-  pub pivots : ps' ≡ patch 0 (columns n r) (luPivot f n (part w off (n * n))) ps

@@ -1,7 +1,7 @@
 -- The solution of a system by the factors of LU, for one right-hand column x, and the determinant. F is the list of the factors of an n by n matrix,
 -- ps that of the pivots' rows. The order of the operations is that of the column-oriented substitutions of Golub and Van Loan.
 -- Assumes nothing.
-use Prim.Native.Nat.{ℕ, zero, suc, _+_, _-_, _*_, _%_}
+use Prim.Native.Nat.{ℕ, zero, suc, _+_, _-_, _%_}
 use mathlib.Core.Bool.{true, cond}
 use mathlib.Core.List.{List}
 use mathlib.Core.Option.{Option, none, some}
@@ -10,9 +10,9 @@ use lib.ListN.{getD}
 use lib.IntN.{pos}
 use lib.Ieee.{Float, fin, Format, mul, sub, div}
 use Rattle.arithmetic_floats.specs.Float.{one}
-use Rattle.arithmetic_matrices.specs.Matrix.{tab, at, grid, part, item, put, column}
+use Rattle.arithmetic_matrices.specs.Matrix.{tab, at, grid, item, column}
 use Rattle.arithmetic_matrices.specs.Product.{identityM}
-use Rattle.lu_factoring.specs.Lu.{exchange, luAt, luOutcome, luFactors, luPivots}
+use Rattle.lu_factoring.specs.Lu.{exchange, luOutcome, luFactors, luPivots}
 use Rattle.lu_factoring.specs.declared.LuOutcome.{LuOutcome}
 use Rattle.lu_factoring.specs.declared.LuOutcome.the-variants.{Factored, Singular}
 
@@ -40,10 +40,6 @@ forward f n F x (suc k) = forwardStep f n F k (forward f n F x k)
 
 -- ---- back substitution
 
--- x(i) less F(i, k) * x(k)
-abbrev pub lowered : Format → ℕ → List Float → ℕ → List Float → ℕ → Float
-lowered f n F k x i = sub f (item x i) (mul f (at n F i k) (item x k))
-
 -- x(k) becomes q = x(k) / F(k, k), and x(i) becomes x(i) - F(i, k) * q in the rows i above row k
 unfoldable pub backStep : Format → ℕ → List Float → ℕ → List Float → List Float
 backStep f n F k x =
@@ -56,21 +52,6 @@ back f n F x zero = x
 back f n F x (suc d) = backStep f n F (n - suc d) (back f n F x d)
 
 -- ---- a row at a time
-
--- v less a(0) * b(0), a(1) * b(1), .., a(k - 1) * b(k - 1), in this order
-unfoldable pub low : Format → Float → (ℕ → Float) → (ℕ → Float) → ℕ → Float
-low f v a b zero = v
-low f v a b (suc k) = sub f (low f v a b k) (mul f (a k) (b k))
-
--- number j of the row at y, less the k numbers at q times numbers j of the first k rows, of m numbers each, at x
-unfoldable pub lowerEntry : Format → ℕ → ℕ → List Float → ℕ → ℕ → ℕ → ℕ → Float
-unfolding low
-lowerEntry f k m w q x y j = low f (item w (y + j)) (λ i. item w (q + i)) (λ i. item w (x + (i * m + j))) k
-
--- number j of the row at y, less the k numbers after g times numbers j of the k rows after it, the last first; then divided by the number at g
-unfoldable pub upperEntry : Format → ℕ → ℕ → List Float → ℕ → ℕ → ℕ → Float
-unfolding low
-upperEntry f k m w g y j = div f (low f (item w (y + j)) (λ d. item w (g + (k - d))) (λ d. item w (y + ((k - d) * m + j))) k) (item w g)
 
 -- ---- the solution
 
@@ -86,28 +67,19 @@ swaps ps zero = zero
 swaps ps (suc k) = swaps ps k + cond (eqb (getD ps k 0) k) 0 1
 
 -- the sign and the product of the first k entries of the diagonal, in their order
-unfoldable pub product : Format → ℕ → List Float → Float → ℕ → Float
-product f n F s zero = s
-product f n F s (suc k) = mul f (product f n F s k) (at n F k k)
+unfoldable pub signedProduct : Format → ℕ → List Float → Float → ℕ → Float
+signedProduct f n F s zero = s
+signedProduct f n F s (suc k) = mul f (signedProduct f n F s k) (at n F k k)
 
 -- 1 where the number of swaps is even, and -1 where it is odd
 abbrev pub signOf : ℕ → Float
 signOf c = cond (eqb (c % 2) 0) one (fin true 1 (pos 0))
 
 unfoldable pub determinantOf : Format → ℕ → List Float → List ℕ → Float
-unfolding swaps product
-determinantOf f n F ps = product f n F (signOf (swaps ps n)) n
+unfolding swaps signedProduct
+determinantOf f n F ps = signedProduct f n F (signOf (swaps ps n)) n
 
 -- ---- a right-hand matrix of n rows and m columns
-
--- the matrix b with its column j replaced by x
-unfoldable pub withColumn : ℕ → ℕ → ℕ → List Float → List Float → List Float
-withColumn n m j x b = grid n m (λ r c. cond (eqb c j) (item x r) (at m b r c))
-
--- the matrix whose columns are g of the columns of b
-unfoldable pub eachColumn : ℕ → ℕ → (List Float → List Float) → List Float → List Float
-unfolding column
-eachColumn n m g b = grid n m (λ r c. item (g (column n m b c)) r)
 
 -- the matrix whose columns are the solutions for the columns of b
 unfoldable pub solvedMatrix : Format → ℕ → ℕ → List Float → List ℕ → List Float → List Float
@@ -143,10 +115,3 @@ unfoldable pub inverse : Format → ℕ → List Float → Option (List Float)
 inverse f n a = division f n a (identityM n)
 
 -- ---- a system in a workspace
-
--- The workspace w after the matrix of order n at f is factored and, where all its columns pass, the right-hand matrix of m columns at x is solved. r is the outcome.
-unfoldable pub divided : Format → ℕ → ℕ → ℕ → ℕ → List Float → LuOutcome → List Float
-divided g n m f x w Factored =
-    let a = part w f (n * n) in
-    put (put w f (luFactors g n a)) x (solvedMatrix g n m (luFactors g n a) (luPivots g n a) (part w x (n * m)))
-divided g n m f x w (Singular k) = put w f (luAt g n (part w f (n * n)) k)

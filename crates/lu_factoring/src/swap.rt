@@ -3,7 +3,8 @@ ghost use mathlib.Core.Path.{_≡_};
 ghost use Prim.Native.Nat.{_+_, _*_, _<_, _≤_};
 ghost use lib.ListN.{length};
 ghost use Rattle.arithmetic_matrices.specs.Matrix.{part, put, Apart};
-ghost use Rattle.lu_factoring.specs.Solve.{swapItems, eachColumn};
+ghost use Rattle.lu_factoring.specs.Solve.{swapItems};
+ghost use Rattle.lu_factoring.specs.Kernels.{eachColumn};
 
 // The m numbers at x and those at y change places.
 pub fn swap_parts(w: &mut [f64], x: usize, y: usize, m: usize)

@@ -11,18 +11,21 @@ use lib.ListN.{length, set, length-set}
 use lib.Seq.{getD-set-same, getD-set-other}
 use lib.Ieee.{Float, nan, Format, sub, mul, div}
 use borrow.Author.Tests.{lt-ltb, le-ltb, eq-eqb, ne-eqb}
-use Rattle.arithmetic_matrices.specs.Matrix.{tab, at, item, part, patch, put, Apart}
+use Rattle.arithmetic_matrices.specs.Matrix.{tab, at, item, part, put, Apart}
+use Rattle.arithmetic_matrices.specs.Kernels.{patch}
 use Rattle.arithmetic_floats.proofs.Order.{same-or-not}
 use Rattle.arithmetic_matrices.proofs.MatrixLaws.{length-tab, getD-tab, tab-cong, tab-is, index-lt, more-rows}
 use Rattle.arithmetic_matrices.proofs.PatchLaws.{length-patch, patch-is, patch-in, patch-below, patch-above, patch-none, patch-more, patch-all}
 use Rattle.arithmetic_matrices.proofs.ProductLaws.{put-more}
 use Rattle.arithmetic_matrices.proofs.PartLaws.{at-part, length-put, getD-put-after, getD-put-apart}
-use Rattle.lu_factoring.specs.Solve.{forwardStep, forward, backStep, back, low, lowerEntry, upperEntry, eachColumn}
+use Rattle.lu_factoring.specs.Solve.{forwardStep, forward, backStep, back}
+use Rattle.lu_systems.specs.Kernels.{lessProducts, lowerEntry, upperEntry}
+use Rattle.lu_factoring.specs.Kernels.{eachColumn}
 use Rattle.lu_factoring.proofs.SolveLaws.{length-forward, length-back}
 use Rattle.lu_factoring.proofs.RowLaws.{each-none, each-cong, each-turn, factors-kept, item-part, row-item, set-row}
 
-low-cong : (f : Format) (v v' : Float) (a a' b b' : ℕ → Float) (k : ℕ) → v ≡ v' → ((i : ℕ) → i < k → a i ≡ a' i) → ((i : ℕ) → i < k → b i ≡ b' i) → low f v a b k ≡ low f v' a' b' k
-unfolding low
+low-cong : (f : Format) (v v' : Float) (a a' b b' : ℕ → Float) (k : ℕ) → v ≡ v' → ((i : ℕ) → i < k → a i ≡ a' i) → ((i : ℕ) → i < k → b i ≡ b' i) → lessProducts f v a b k ≡ lessProducts f v' a' b' k
+unfolding lessProducts
 low-cong f v v' a a' b b' zero e p q = e
 low-cong f v v' a a' b b' (suc k) e p q =
     λ t. sub f (low-cong f v v' a a' b b' k e (λ i h. p i (omega arith)) (λ i h. q i (omega arith)) t) (mul f (p k (omega arith) t) (q k (omega arith) t))
@@ -35,8 +38,8 @@ module _ (f : Format) (n : ℕ) (F l : List Float) where
   down k i = item (forward f n F l k) i
 
   -- until column i, item i is lowered once a column
-  forward-low : (i k : ℕ) → i < n → k ≤ i → down k i ≡ low f (item l i) (at n F i) (λ j. down j j) k
-  unfolding forward forwardStep low
+  forward-low : (i k : ℕ) → i < n → k ≤ i → down k i ≡ lessProducts f (item l i) (at n F i) (λ j. down j j) k
+  unfolding forward forwardStep lessProducts
   forward-low i zero hi h = refl
   forward-low i (suc k) hi h =
       getD-tab n _ i nan hi ∙ rw (lt-ltb k i (omega arith)) (ap (λ v. sub f v (mul f (at n F i k) (down k k))) (forward-low i k hi (omega arith)))
@@ -53,7 +56,7 @@ module _ (f : Format) (n : ℕ) (F l : List Float) where
   forward-end i hi = let e : n ≡ i + (n - i) = omega arith in ap (λ k. down k i) e ∙ forward-stays i (n - i) hi
 
   -- item i of the solution, from the items before it
-  forward-is : (i : ℕ) → i < n → down n i ≡ low f (item l i) (at n F i) (down n) i
+  forward-is : (i : ℕ) → i < n → down n i ≡ lessProducts f (item l i) (at n F i) (down n) i
   forward-is i hi =
       forward-end i hi
       ∙ forward-low i i hi (omega arith)
@@ -67,8 +70,8 @@ module _ (f : Format) (n : ℕ) (F l : List Float) where
   unfolding back backStep
   back-divided i d h = let e : n - suc d ≡ i = omega arith in rw e (getD-tab n _ i nan (omega arith) ∙ rw (eq-eqb i i refl))
 
-  back-low : (i d : ℕ) → i + d < n → up d i ≡ low f (item l i) (λ e. at n F i (n - suc e)) (λ e. up (suc e) (n - suc e)) d
-  unfolding back backStep low
+  back-low : (i d : ℕ) → i + d < n → up d i ≡ lessProducts f (item l i) (λ e. at n F i (n - suc e)) (λ e. up (suc e) (n - suc e)) d
+  unfolding back backStep lessProducts
   back-low i zero h = refl
   back-low i (suc d) h =
       getD-tab n _ i nan (omega arith)
@@ -88,7 +91,7 @@ module _ (f : Format) (n : ℕ) (F l : List Float) where
   back-end i d hi h b = let e : n ≡ d + (n - d) = omega arith in ap (λ k. up k i) e ∙ back-stays i d (n - d) hi h (omega arith)
 
   -- item i of the solution, from the k items after it
-  back-is : (i k : ℕ) → i + suc k ≡ n → up n i ≡ div f (low f (item l i) (λ d. at n F i (i + (k - d))) (λ d. up n (i + (k - d))) k) (at n F i i)
+  back-is : (i k : ℕ) → i + suc k ≡ n → up n i ≡ div f (lessProducts f (item l i) (λ d. at n F i (i + (k - d))) (λ d. up n (i + (k - d))) k) (at n F i i)
   back-is i k h =
       back-end i (suc k) (omega arith) (omega arith) (omega arith)
       ∙ back-divided i k h
@@ -101,13 +104,13 @@ module _ (f : Format) (n : ℕ) (F l : List Float) where
 -- ---- a turn of the sums
 
 pub lower-none : (f : Format) (m : ℕ) (w : List Float) (q x y j p : ℕ) → p ≡ y + j → item w p ≡ lowerEntry f 0 m w q x y j
-unfolding lowerEntry low
+unfolding lowerEntry lessProducts
 lower-none f m w q x y j p e = ap (item w) e
 
 -- p is the place of entry k of the column
 pub lower-turn : (f : Format) (k m : ℕ) (w : List Float) (q x y j p : ℕ) (s : Float) → s ≡ lowerEntry f k m w q x y j → p ≡ x + (k * m + j)
     → sub f s (mul f (item w (q + k)) (item w p)) ≡ lowerEntry f (k + 1) m w q x y j
-unfolding lowerEntry low
+unfolding lowerEntry lessProducts
 lower-turn f k m w q x y j p s e h = rw (e, h, add-one)
 
 pub lower-done : (f : Format) (i k m : ℕ) (w : List Float) (q x y j : ℕ) (s : Float) → i ≡ k → s ≡ lowerEntry f i m w q x y j → s ≡ lowerEntry f k m w q x y j
@@ -115,15 +118,15 @@ lower-done f i k m w q x y j s h e = rw h at e
 
 -- the same downwards: d of the k rows after the row at y are done
 abbrev pub upperSum : Format → ℕ → ℕ → ℕ → List Float → ℕ → ℕ → ℕ → Float
-upperSum f d k m w g y j = low f (item w (y + j)) (λ e. item w (g + (k - e))) (λ e. item w (y + ((k - e) * m + j))) d
+upperSum f d k m w g y j = lessProducts f (item w (y + j)) (λ e. item w (g + (k - e))) (λ e. item w (y + ((k - e) * m + j))) d
 
 pub upper-none : (f : Format) (k m : ℕ) (w : List Float) (g y j p : ℕ) → p ≡ y + j → item w p ≡ upperSum f (k - k) k m w g y j
-unfolding low
+unfolding lessProducts
 upper-none f k m w g y j p e = let z : k - k ≡ 0 = omega arith in rw z (ap (item w) e)
 
 pub upper-turn : (f : Format) (r k m : ℕ) (w : List Float) (g y j p : ℕ) (s : Float) → 0 < r → r ≤ k → s ≡ upperSum f (k - r) k m w g y j → p ≡ y + (r * m + j)
     → sub f s (mul f (item w (g + r)) (item w p)) ≡ upperSum f (k - (r - 1)) k m w g y j
-unfolding low
+unfolding lessProducts
 upper-turn f r k m w g y j p s hr hk e h =
     let a : k - (r - 1) ≡ suc (k - r) = omega arith in
     let b : k - (k - r) ≡ r = omega arith in
@@ -217,7 +220,7 @@ module _ (f : Format) (o x n m : ℕ) (w₀ w : List Float) (room : x + n * m �
       → w1 ≡ put w₀ x (eachColumn n m (forwardTo f n F₀ (i + 1)) (part w₀ x (n * m)))
   unfolding lowerEntry
   forward-rows-more i w1 hi e e1 =
-      each-turn x n m (forwardTo f n F₀ i) w₀ w room e (λ l. set l i (low f (item l i) (at n F i) (item l) i)) (forwardTo f n F₀ (i + 1)) w1
+      each-turn x n m (forwardTo f n F₀ i) w₀ w room e (λ l. set l i (lessProducts f (item l i) (at n F i) (item l) i)) (forwardTo f n F₀ (i + 1)) w1
       (λ l s. length-patch 0 i (item (forward f n F₀ l n)) l ∙ s)
       (λ l s.
       let G = item (forward f n F₀ l n) in
@@ -227,7 +230,7 @@ module _ (f : Format) (o x n m : ℕ) (w₀ w : List Float) (room : x + n * m �
       ∙ sym (forward-is f n F₀ l i hi))
       ∙ patch-more nan 0 G l i (omega arith) (omega arith))
       (e1
-      ∙ set-row w x n m i (λ l. low f (item l i) (at n F i) (item l) i) _ hi long
+      ∙ set-row w x n m i (λ l. lessProducts f (item l i) (at n F i) (item l) i) _ hi long
       (λ c s.
       low-cong f _ _ _ _ _ _ i (row-item w x n m i c hi s)
       (λ k h. let a : o + i * n + k ≡ o + (i * n + k) = omega arith in ap (item w) a ∙ sym (at-part w o n n i k hi (omega arith)))
@@ -281,7 +284,7 @@ module _ (f : Format) (o x n m : ℕ) (w₀ w : List Float) (room : x + n * m �
       F = part w o (n * n)
 
       final : List Float → Float
-      final l = div f (low f (item l i) (λ d. at n F i (i + (k - d))) (λ d. item l (i + (k - d))) k) (at n F i i)
+      final l = div f (lessProducts f (item l i) (λ d. at n F i (i + (k - d))) (λ d. item l (i + (k - d))) k) (at n F i i)
 
       below : i < n
       below = omega arith

@@ -6,10 +6,12 @@ use mathlib.Core.List.{List}
 use native.Mathlib.Omega.{arith}
 use lib.ListN.{length, getD, set, length-set}
 use lib.Ieee.{Float, nan, Format, sub, mul, div}
-use Rattle.arithmetic_matrices.specs.Matrix.{at, item, part, patch, put, Apart}
+use Rattle.arithmetic_matrices.specs.Matrix.{at, item, part, put, Apart}
+use Rattle.arithmetic_matrices.specs.Kernels.{patch}
 use Rattle.arithmetic_matrices.proofs.PatchLaws.{length-patch}
 use Rattle.arithmetic_matrices.proofs.PartLaws.{length-part, getD-part, getD-put-in, put-part, put-put, part-put, part-put-apart}
-use Rattle.lu_factoring.specs.Solve.{swapItems, permuted, forward, lowered, backStep, back, solved, solvedMatrix, eachColumn}
+use Rattle.lu_factoring.specs.Solve.{swapItems, permuted, forward, backStep, back, solved, solvedMatrix}
+use Rattle.lu_factoring.specs.Kernels.{lowered, eachColumn}
 use Rattle.lu_factoring.proofs.SolveLaws.{permuted-more, length-permuted, lowered-more, forward-step, length-forward, forward-turn, back-step, length-backStep, length-back, back-turn}
 use Rattle.lu_factoring.proofs.RowLaws.{set-put-in, each-turn, factors-kept}
 

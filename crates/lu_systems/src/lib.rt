@@ -1,3 +1,3 @@
 // Systems of equations in a workspace, solved by the factors of LU.
-pub mod rows;
+mod rows;
 pub mod workspace;

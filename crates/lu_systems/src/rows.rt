@@ -4,8 +4,11 @@ ghost use mathlib.Core.Path.{_≡_};
 ghost use Prim.Native.Nat.{ℕ, _+_, _*_, _<_, _≤_};
 ghost use lib.ListN.{length, getD};
 ghost use lib.Ieee.{binary64};
-ghost use Rattle.arithmetic_matrices.specs.Matrix.{tab, at, part, patch, put, Apart};
-ghost use Rattle.lu_factoring.specs.Solve.{permuted, lowered, lowerEntry, upperEntry, backStep, eachColumn, forward as forwardOf, back as backOf};
+ghost use Rattle.arithmetic_matrices.specs.Matrix.{tab, at, part, put, Apart};
+ghost use Rattle.arithmetic_matrices.specs.Kernels.{patch};
+ghost use Rattle.lu_factoring.specs.Solve.{permuted, backStep, forward as forwardOf, back as backOf};
+ghost use Rattle.lu_factoring.specs.Kernels.{lowered, eachColumn};
+ghost use Rattle.lu_systems.specs.Kernels.{lowerEntry, upperEntry};
 use lu_factoring::swap::exchange_rows;
 
 // Entry (i, k) of the factors.

@@ -17,8 +17,8 @@ use Rattle.arithmetic_floats.proofs.Order.{split}
 use Rattle.lu_factoring.specs.Lu.{swapRows, luAt, luPivot, luFactors, luPivots}
 use Rattle.lu_factoring.specs.Solve.{permuted, forward, back}
 use Rattle.lu_factoring.specs.Finite.{FiniteColumn, FiniteForward, FiniteBackStep, FiniteSolution}
-use Rattle.functions_exponential.specs.Exponential.{power, coefficient, flipped, numerator, denominator, pade, scaled}
-use Rattle.functions_exponential.specs.Finite.{FiniteCombination, FinitePade, FiniteRun}
+use Rattle.functions_definitions.specs.Exponential.{power, coefficient, flipped, numerator, denominator, pade, scaled}
+use Rattle.functions_definitions.specs.Finite.{FiniteCombination, FinitePade, FiniteRun}
 
 -- ---- the test
 

@@ -3,7 +3,7 @@ use mathlib.Core.Path.{_≡_, refl}
 use mathlib.Core.Bool.{true}
 use mathlib.Core.List.{List, [], _∷_}
 use lib.Ieee.{binary64}
-use Rattle.functions_exponential.specs.Calls.{kron, kronSum}
+use Rattle.functions_definitions.specs.Calls.{kron, kronSum}
 use Rattle.samples.specs.Shown.{Line, hold, numbers, shown, bits}
 use Rattle.samples.specs.Opened.{all}
 

@@ -5,9 +5,9 @@ use mathlib.Core.Bool.{true, cond}
 use mathlib.Core.List.{List, [], _∷_}
 use lib.Ieee.{Float, Format, binary64}
 use Rattle.arithmetic_matrices.specs.Product.{minusIdentityM}
-use Rattle.functions_exponential.specs.Iterate.{Step, running, stopped, failed}
-use Rattle.functions_exponential.specs.Roots.{newton, denmanBeavers}
-use Rattle.functions_exponential.specs.Logarithm.{Rooted, isFar, rooting, series}
+use Rattle.functions_definitions.specs.Iterate.{Step, running, stopped, failed}
+use Rattle.functions_definitions.specs.Roots.{newton, denmanBeavers}
+use Rattle.functions_definitions.specs.Logarithm.{Rooted, isFar, rooting, series}
 use Rattle.samples.specs.Shown.{Line, hold, numbers}
 use Rattle.samples.specs.Opened.{all}
 

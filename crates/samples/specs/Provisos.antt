@@ -7,9 +7,9 @@ use lib.Ieee.{Float, fin, binary64}
 use mathlib.Core.Bool.{false}
 use Rattle.lu_factoring.specs.Lu.{luOutcome}
 use Rattle.lu_factoring.specs.declared.LuOutcome.the-variants.{Factored}
-use Rattle.functions_exponential.specs.Exponential.{exponential, denominator, scaled, block, quarter}
-use Rattle.functions_exponential.specs.Frechet.{Proviso}
-use Rattle.functions_exponential.proofs.FirstOutput.{first-output-alone, counted}
+use Rattle.functions_definitions.specs.Exponential.{exponential, denominator, scaled, block, quarter}
+use Rattle.functions_definitions.specs.Frechet.{Proviso}
+use Rattle.functions_definitions.proofs.FirstOutput.{first-output-alone, counted}
 use Rattle.samples.specs.Checked.{every, finiteDot, finiteProduct, finiteCombination, finiteColumn, finiteForward, finiteBackStep, finiteSolution, finitePade, finiteRun, run-ok}
 use Rattle.samples.specs.Opened.{all}
 

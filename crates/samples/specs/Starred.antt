@@ -9,8 +9,8 @@ use Rattle.arithmetic_floats.specs.Float.{+zero, halvings, integerOf}
 use Rattle.arithmetic_matrices.specs.Matrix.{tab}
 use Rattle.arithmetic_questions.specs.Result.{_>>=_}
 use Rattle.lu.specs.Calls.{Factorisation, compute, determinant}
-use Rattle.functions_exponential.specs.Powers.{isWhole}
-use Rattle.functions_exponential.specs.Calls.{expm, logm, sqrtm, frechetExpm}
+use Rattle.functions_definitions.specs.Powers.{isWhole}
+use Rattle.functions_definitions.specs.Calls.{expm, logm, sqrtm, frechetExpm}
 use Rattle.samples.specs.Shown.{Line, hold, shown, bits, both, number, factorsAndPivots}
 use Rattle.samples.specs.Opened.{all}
 

@@ -19,14 +19,14 @@ use Rattle.arithmetic_questions.specs.Outputs.{Both}
 use Rattle.arithmetic_questions.specs.declared.answer.Outcome.{Outcome}
 use Rattle.arithmetic_floats.proofs.Least.{halvings-le}
 use Rattle.arithmetic_floats.proofs.Zero.{zero-fits}
-use Rattle.functions_exponential.specs.Roots.{squareRoot}
-use Rattle.functions_exponential.specs.Logarithm.{logarithm}
-use Rattle.functions_exponential.specs.Powers.{halvingsFor, expM, wholePower, fractionalPower, isWhole, powerM}
-use Rattle.functions_exponential.specs.Trigonometric.{trigonometricHalvings, cosM, sinM}
-use Rattle.functions_exponential.specs.Derivatives.{blockQuarters, frechetExpM, frechetLogM, rootDerivative, frechetSqrtM, unitDirection, conditioned, condExpM}
-use Rattle.functions_exponential.specs.Exponential.{block}
-use Rattle.functions_exponential.specs.Calls.{expm, logm, sqrtm, powm, cosm, sinm, frechetExpm, frechetLogm, frechetSqrtm, condExpm}
-use Rattle.sheet_encoding.specs.Text.{Few}
+use Rattle.functions_definitions.specs.Roots.{squareRoot}
+use Rattle.functions_definitions.specs.Logarithm.{logarithm}
+use Rattle.functions_definitions.specs.Powers.{halvingsFor, expM, wholePower, fractionalPower, isWhole, powerM}
+use Rattle.functions_definitions.specs.Trigonometric.{trigonometricHalvings, cosM, sinM}
+use Rattle.functions_definitions.specs.Derivatives.{blockQuarters, frechetExpM, frechetLogM, rootDerivative, frechetSqrtM, unitDirection, conditioned, condExpM}
+use Rattle.functions_definitions.specs.Exponential.{block}
+use Rattle.functions_definitions.specs.Calls.{expm, logm, sqrtm, powm, cosm, sinm, frechetExpm, frechetLogm, frechetSqrtm, condExpm}
+use Rattle.sheet_encoding.specs.Kernels.{Few}
 use Rattle.sheet.specs.Tasks.{valueFor, derivativeFor}
 
 -- ---- halvings that a norm sets

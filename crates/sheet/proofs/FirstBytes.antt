@@ -10,7 +10,7 @@ use lib.Dec.{ltb}
 use lib.ListN.{length, take, length-take}
 use lib.Seq.{getD-take, take-all}
 use lib.Ieee.{Format}
-use Rattle.functions_exponential.proofs.ConditionLaws.{square-le8}
+use Rattle.arithmetic_matrices.proofs.MatrixLaws.{square-le8}
 use Rattle.sheet_encoding.specs.declared.parse.Step.{Step}
 use Rattle.sheet_encoding.specs.declared.parse.Step.the-variants.{Value, Bad}
 use Rattle.sheet_encoding.specs.declared.parse.Parse.{Parse}

@@ -8,12 +8,12 @@ use lib.ListN.{length}
 use lib.Ieee.{Float, Format, binary64}
 use Rattle.arithmetic_floats.specs.Float.{+zero}
 use Rattle.arithmetic_matrices.specs.Matrix.{tab}
-use Rattle.functions_exponential.specs.Calls.{sqrtm, frechetSqrtm}
+use Rattle.functions_definitions.specs.Calls.{sqrtm, frechetSqrtm}
 use Rattle.sheet_encoding.specs.Bytes.{byteAt, numberAt, numbersAt}
 use Rattle.sheet_encoding.specs.Parse.{directionsAt, tasksAt, SheetIs}
-use Rattle.sheet_encoding.specs.Text.{Few}
-use Rattle.sheet_encoding.specs.Wrote.{AllLines}
-use Rattle.sheet.specs.Tasks.{valueFor, derivativeFor, both, directionAt, exponentAt, exponentFor, taskResult, taskLines, TaskReady, RootCode, RootTask}
+use Rattle.sheet_encoding.specs.Kernels.{Few, AllLines}
+use Rattle.sheet.specs.Tasks.{valueFor, derivativeFor, both, directionAt, exponentAt, exponentFor, taskResult, taskLines}
+use Rattle.sheet.specs.Kernels.{TaskReady, RootCode, RootTask}
 use Rattle.sheet.proofs.FewLaws.{few-value, few-derivative}
 use Rattle.sheet.proofs.TaskLaws.{value-2, derivative-8, task-value, task-derivative}
 use Rattle.sheet.proofs.SheetLaws.{task-ready}

@@ -12,9 +12,10 @@ use Rattle.sheet_encoding.specs.declared.parse.Parse.{Parse}
 use Rattle.sheet_encoding.specs.declared.parse.Parse.the-variants.{Sheet, Refused}
 use Rattle.sheet_encoding.specs.Bytes.{byteAt}
 use Rattle.sheet_encoding.specs.Text.{refusedLine, resultLine}
-use Rattle.sheet_encoding.specs.Wrote.{AllLines}
+use Rattle.sheet_encoding.specs.Kernels.{AllLines}
 use Rattle.sheet_encoding.specs.Parse.{indexLimit, parseSheet, directionsAt, exponentsAt, tasksAt, SheetIs}
-use Rattle.sheet.specs.Tasks.{taskResult, taskLines, linesOf, sheetLines, TaskReady, Entered}
+use Rattle.sheet.specs.Tasks.{taskResult, taskLines, linesOf, sheetLines, Entered}
+use Rattle.sheet.specs.Kernels.{TaskReady}
 
 -- ---- the lines
 

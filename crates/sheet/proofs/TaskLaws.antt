@@ -11,11 +11,11 @@ use Rattle.arithmetic_questions.specs.Result.{Result, refused, done, exit, outc
 use Rattle.arithmetic_questions.specs.Answers.{reported}
 use Rattle.arithmetic_questions.specs.Outputs.{Both, OneOutputWith, TwoOutputsWith}
 use Rattle.arithmetic_questions.specs.declared.answer.Outcome.{Outcome}
-use Rattle.functions_exponential.specs.Derivatives.{Condition}
-use Rattle.functions_exponential.specs.Calls.{expm, logm, sqrtm, powm, cosm, sinm, frechetExpm, frechetLogm, frechetSqrtm, condExpm}
+use Rattle.functions_definitions.specs.Derivatives.{Condition}
+use Rattle.functions_definitions.specs.Calls.{expm, logm, sqrtm, powm, cosm, sinm, frechetExpm, frechetLogm, frechetSqrtm, condExpm}
 use Rattle.sheet_encoding.specs.Bytes.{numbersAt}
-use Rattle.sheet_encoding.specs.Text.{resultLine, carrying}
-use Rattle.sheet_encoding.specs.Wrote.{Lined}
+use Rattle.sheet_encoding.specs.Text.{resultLine}
+use Rattle.sheet_encoding.specs.Kernels.{carrying, Lined}
 use Rattle.sheet.specs.Tasks.{valueFor, derivativeFor, both, ratio, directionAt, exponentAt, exponentFor, taskResult}
 
 -- ---- an outcome with the outputs that the call left is the definition's result

@@ -2,10 +2,10 @@
 ghost use lib.Ieee.{binary64};
 ghost use Rattle.sheet.specs.Tasks.{Entered};
 
-pub mod number;
-pub mod position;
-pub mod run;
-pub mod task;
+mod number;
+mod position;
+mod run;
+mod task;
 
 // The lines of the sheet's tasks are written to out, and the number of bytes written is reported. An out of fewer than 35,000 bytes is refused
 // before the sheet is read: 0 is reported, and no byte written.

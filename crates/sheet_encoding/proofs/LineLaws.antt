@@ -8,7 +8,8 @@ use Rattle.arithmetic_questions.specs.Answers.{numbered, reported}
 use Rattle.arithmetic_questions.specs.declared.answer.Outcome.{Outcome}
 use Rattle.arithmetic_questions.specs.declared.answer.Outcome.the-variants.{Done, Refused}
 use Rattle.arithmetic_questions.specs.declared.answer.Refusal.{Refusal}
-use Rattle.sheet_encoding.specs.Text.{newline, numbersText, refusedLine, doneHead, doneLine, resultLine, carrying}
+use Rattle.sheet_encoding.specs.Text.{newline, numbersText, refusedLine, doneHead, doneLine, resultLine}
+use Rattle.sheet_encoding.specs.Kernels.{carrying}
 use Rattle.sheet_encoding.proofs.TextLaws.{numbersText-append}
 
 -- a refusal by its number and details

@@ -14,7 +14,7 @@ use lib.Seq.{take-suc, drop-at, set-split, append-snoc, length-take-le}
 use lib.Ieee.{Float, Format, nan, toBits}
 use lib.Ieee.Fits.{and-l, and-r}
 use Rattle.sheet_encoding.specs.Text.{glyph, hexDigits, orNone, decimalIn, decimal, numberText, field, numbersText}
-use Rattle.sheet_encoding.specs.Wrote.{Wrote}
+use Rattle.sheet_encoding.specs.Kernels.{Wrote}
 use Rattle.sheet_encoding.proofs.WroteLaws.{wrote-more}
 
 -- ---- hexadecimal digits

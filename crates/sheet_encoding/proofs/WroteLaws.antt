@@ -6,7 +6,7 @@ use native.Mathlib.Omega.{arith}
 use native.Mathlib.Numerals.{add-one}
 use lib.ListN.{length, take, drop, getD, set, length-append, length-take, length-drop, take-append-drop, drop-of-length-le}
 use lib.Seq.{take-at, drop-at, drop-drop, drop-cons, set-at, set-split, append-snoc, take-suc, take-all, length-take-le}
-use Rattle.sheet_encoding.specs.Wrote.{replaced, Wrote}
+use Rattle.sheet_encoding.specs.Kernels.{replaced, Wrote}
 
 -- ---- a copy from the front
 

@@ -1,4 +1,4 @@
 pub mod Bytes
 pub mod Parse
 pub mod Text
-pub mod Wrote
+pub mod Kernels

@@ -20,11 +20,6 @@ pick false a b = b
 unfoldable pub byteIn : List ℕ → ℕ → ℕ → ℕ → Step
 byteIn s p lo hi = pick (ltb p (length s)) (pick (leb lo (byteAt s p)) (pick (ltb (byteAt s p) hi) (Value (byteAt s p)) (Bad 16 p)) (Bad 16 p)) (Bad 15 p)
 
--- the value of a step, and 0 for a refusal
-abbrev pub valueOf : Step → ℕ
-valueOf (Value v) = v
-valueOf (Bad k p) = 0
-
 -- go on with the value, or stop
 abbrev pub thenStep : Step → (ℕ → Step) → Step
 thenStep (Value v) k = k v

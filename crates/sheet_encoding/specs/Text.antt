@@ -1,5 +1,5 @@
 -- Numbers, words and lines as bytes of ASCII. Definitions only.
-use Prim.Native.Nat.{ℕ, zero, suc, _+_, _/_, _%_, _≤_}
+use Prim.Native.Nat.{ℕ, zero, suc, _+_, _/_, _%_}
 use mathlib.Core.Bool.{Bool, true, false, cond}
 use mathlib.Core.List.{List, [], _∷_, _++_}
 use lib.Dec.{ltb}
@@ -72,13 +72,3 @@ doneLine f task halvings m = doneHead task halvings ++ numbersText f m ++ newlin
 unfoldable pub resultLine : Format → ℕ → Result (List Float) → List ℕ
 resultLine f task (refused k x y) = refusedLine task k x y
 resultLine f task (done s m) = doneLine f task s m
-
--- an outcome with the numbers m, where it is done
-unfoldable pub carrying : List Float → Result (Unit {0}) → Result (List Float)
-carrying m (refused k x y) = refused k x y
-carrying m (done s a) = done s m
-
--- halvings are at most 1,024, so that a line has room for them
-abbrev pub Few : {A : Type 0} → Result A → Type 0
-Few (refused k x y) = Unit {0}
-Few (done s a) = s ≤ 1024

@@ -2,4 +2,4 @@
 pub mod line;
 pub mod parse;
 pub mod reading;
-pub mod writing;
+mod writing;

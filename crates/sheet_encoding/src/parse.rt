@@ -1,7 +1,8 @@
 // The four sections of a sheet, read from left to right.
 ghost use mathlib.Core.Path.{_≡_};
 ghost use Prim.Native.Nat.{_+_, _*_, _≤_, _<_};
-ghost use Rattle.sheet_encoding.specs.Parse.{byteIn, valueOf, bytesAfter, indexLimit, parseEnd, parseEach, parseTasks, parseExponents, parseDirections, parseSheet, order as orderOf, section as sectionOf, task as taskOf, tasks as tasksOf};
+ghost use Rattle.sheet_encoding.specs.Parse.{byteIn, bytesAfter, indexLimit, parseEnd, parseEach, parseTasks, parseExponents, parseDirections, parseSheet, order as orderOf, section as sectionOf, task as taskOf, tasks as tasksOf};
+ghost use Rattle.sheet_encoding.specs.Kernels.{valueOf};
 
 // A value, or a refusal's number and position.
 pub enum Step {

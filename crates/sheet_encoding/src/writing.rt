@@ -5,7 +5,7 @@ ghost use Prim.Native.Nat.{_+_, _*_, _≤_, _<_};
 ghost use lib.ListN.{length};
 ghost use lib.Ieee.{binary64};
 ghost use Rattle.sheet_encoding.specs.Text.{hexDigits, decimal, numberText, field, detailsText, numbersText, glyph as glyphOf};
-ghost use Rattle.sheet_encoding.specs.Wrote.{Wrote};
+ghost use Rattle.sheet_encoding.specs.Kernels.{Wrote};
 use arithmetic_floats::float::bits_of;
 
 const DIGITS: [u8; 16] = *b"0123456789abcdef";

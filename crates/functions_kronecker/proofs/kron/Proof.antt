@@ -6,8 +6,8 @@ use denote.Ref.{now}
 use lib.Ieee.{binary64}
 use Rattle.arithmetic_questions.specs.Result.{done}
 use Rattle.arithmetic_questions.specs.Questions.{ofKron}
-use Rattle.functions_exponential.specs.Kronecker.{kronM}
-use Rattle.functions_exponential.specs.Calls.{kron}
+use Rattle.functions_definitions.specs.Kronecker.{kronM}
+use Rattle.functions_definitions.specs.Calls.{kron}
 use Rattle.functions_kronecker.proofs.KroneckerQuestions.{call, kron-fitting}
 use Rattle.arithmetic_questions.proofs.OutputLaws.{output-refused, output-done}
 use Rattle.functions_kronecker.proofs.kron.Statement.{statement}

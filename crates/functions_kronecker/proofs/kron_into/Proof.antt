@@ -5,8 +5,9 @@ use native.Mathlib.Omega.{arith}
 use mathlib.Core.Path.{_≡_, _∙_}
 use lib.Ieee.{binary64}
 use Rattle.arithmetic_matrices.proofs.MatrixLaws.{row-end}
-use Rattle.functions_exponential.specs.Kronecker.{kronEntry}
-use Rattle.functions_exponential.proofs.KroneckerLaws.{Filled, allRows, filled-none, filled-blocks, filled-all, rows-end, kron-blocks}
+use Rattle.functions_kronecker.specs.Kernels.{kronEntry}
+use Rattle.arithmetic_matrices.proofs.FilledLaws.{Filled, allRows, filled-none, filled-blocks, filled-all, rows-end}
+use Rattle.functions_kronecker.proofs.KroneckerLaws.{kron-blocks}
 use Rattle.functions_kronecker.proofs.kron_into.Statement.{statement}
 use Rattle.functions_kronecker.proofs.kron_into.Tie as tie
 

@@ -5,8 +5,8 @@ use mathlib.Core.Path.{_≡_, ap, _∙_}
 use lib.Ieee.{binary64}
 use Rattle.arithmetic_matrices.specs.Matrix.{at, put}
 use Rattle.arithmetic_matrices.proofs.MatrixLaws.{row-end}
-use Rattle.functions_exponential.specs.Kronecker.{kronEntry}
-use Rattle.functions_exponential.proofs.KroneckerLaws.{Filled, filled-none, filled-more, row-parts}
+use Rattle.functions_kronecker.specs.Kernels.{kronEntry}
+use Rattle.arithmetic_matrices.proofs.FilledLaws.{Filled, filled-none, filled-more, row-parts}
 use Rattle.functions_kronecker.proofs.kron_row.Statement.{statement}
 use Rattle.functions_kronecker.proofs.kron_row.Tie as tie
 

@@ -4,8 +4,9 @@ use native.Mathlib.Omega.{arith}
 use mathlib.Core.Path.{_≡_}
 use lib.Ieee.{binary64}
 use Rattle.arithmetic_matrices.proofs.MatrixLaws.{row-end}
-use Rattle.functions_exponential.specs.Kronecker.{kronEntry, blockRow}
-use Rattle.functions_exponential.proofs.KroneckerLaws.{Filled, filled-none, filled-more}
+use Rattle.functions_kronecker.specs.Kernels.{kronEntry}
+use Rattle.arithmetic_matrices.specs.Kernels.{blockRow}
+use Rattle.arithmetic_matrices.proofs.FilledLaws.{Filled, filled-none, filled-more}
 use Rattle.functions_kronecker.proofs.kron_rows.Statement.{statement}
 use Rattle.functions_kronecker.proofs.kron_rows.Tie as tie
 

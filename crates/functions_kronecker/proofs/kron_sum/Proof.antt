@@ -6,8 +6,8 @@ use denote.Ref.{now}
 use lib.Ieee.{binary64}
 use Rattle.arithmetic_questions.specs.Result.{done}
 use Rattle.arithmetic_questions.specs.Questions.{ofKronSum}
-use Rattle.functions_exponential.specs.Kronecker.{kronSumM}
-use Rattle.functions_exponential.specs.Calls.{kronSum}
+use Rattle.functions_definitions.specs.Kronecker.{kronSumM}
+use Rattle.functions_definitions.specs.Calls.{kronSum}
 use Rattle.functions_kronecker.proofs.KroneckerQuestions.{call, kron-sum-fitting}
 use Rattle.arithmetic_questions.proofs.OutputLaws.{output-refused, output-done}
 use Rattle.functions_kronecker.proofs.kron_sum.Statement.{statement}

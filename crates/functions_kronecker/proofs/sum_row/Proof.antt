@@ -7,8 +7,8 @@ use lib.Ieee.{binary64}
 use Rattle.arithmetic_floats.proofs.Constants.{one-bits}
 use Rattle.arithmetic_matrices.specs.Matrix.{at, put}
 use Rattle.arithmetic_matrices.proofs.MatrixLaws.{row-end}
-use Rattle.functions_exponential.specs.Kronecker.{kronSumEntry}
-use Rattle.functions_exponential.proofs.KroneckerLaws.{Filled, filled-none, filled-more, row-parts}
+use Rattle.functions_kronecker.specs.Kernels.{kronSumEntry}
+use Rattle.arithmetic_matrices.proofs.FilledLaws.{Filled, filled-none, filled-more, row-parts}
 use Rattle.functions_kronecker.proofs.sum_row.Statement.{statement}
 use Rattle.functions_kronecker.proofs.sum_row.Tie as tie
 

@@ -4,8 +4,9 @@ use native.Mathlib.Omega.{arith}
 use mathlib.Core.Path.{_≡_}
 use lib.Ieee.{binary64}
 use Rattle.arithmetic_matrices.proofs.MatrixLaws.{row-end}
-use Rattle.functions_exponential.specs.Kronecker.{kronSumEntry, blockRow}
-use Rattle.functions_exponential.proofs.KroneckerLaws.{Filled, filled-none, filled-more}
+use Rattle.functions_kronecker.specs.Kernels.{kronSumEntry}
+use Rattle.arithmetic_matrices.specs.Kernels.{blockRow}
+use Rattle.arithmetic_matrices.proofs.FilledLaws.{Filled, filled-none, filled-more}
 use Rattle.functions_kronecker.proofs.sum_rows.Statement.{statement}
 use Rattle.functions_kronecker.proofs.sum_rows.Tie as tie
 

@@ -6,7 +6,7 @@ use borrow.Author.Needs.{needs}
 use lib.Dec.{T}
 use lib.Ieee.{Float, binary64, fits, isNan, le, ofBits}
 use lib.Ieee.Bits.{toBits-lt}
-use Rattle.arithmetic_floats.specs.Float.{magnitude, halvings, one}
+use Rattle.arithmetic_floats.specs.Float.{halvings, one}
 use Rattle.arithmetic_floats.proofs.Signs.{plain-magnitude}
 use Rattle.arithmetic_floats.proofs.Least.{Plain, none-above, exponent-ge, at-power, past-power, halvings-magnitude}
 use Rattle.arithmetic_floats.proofs.float.halvings_of.Statement.{statement}

@@ -8,7 +8,8 @@ use native.Mathlib.Numerals.{add-one}
 use borrow.Rule.Slice.PartMut.{putMid}
 use lib.ListN.{length, take, drop}
 use lib.Ieee.{Float}
-use Rattle.arithmetic_matrices.specs.Matrix.{part, at, putRows}
+use Rattle.arithmetic_matrices.specs.Matrix.{part, at}
+use Rattle.arithmetic_matrices.specs.Kernels.{putRows}
 use Rattle.arithmetic_matrices.proofs.MatrixLaws.{more-rows, row-end}
 use Rattle.arithmetic_matrices.proofs.PartLaws.{lent, returned, length-part, length-put}
 use Rattle.arithmetic_matrices.proofs.matrix.place.Statement.{statement}

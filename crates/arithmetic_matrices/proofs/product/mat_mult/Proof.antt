@@ -6,7 +6,7 @@ use mathlib.Core.Path.{_≡_, refl, _∙_}
 use lib.ListN.{length}
 use lib.Ieee.{binary64}
 use Rattle.arithmetic_matrices.specs.Matrix.{grid, put, Apart}
-use Rattle.arithmetic_matrices.specs.Product.{rowDot}
+use Rattle.arithmetic_matrices.specs.Kernels.{rowDot}
 use Rattle.arithmetic_matrices.proofs.MatrixLaws.{row-end, more-rows}
 use Rattle.arithmetic_matrices.proofs.PartLaws.{put-no-row, apart-within}
 use Rattle.arithmetic_matrices.proofs.ProductLaws.{mulM-parts, mulM-row}

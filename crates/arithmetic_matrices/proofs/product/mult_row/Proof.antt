@@ -5,7 +5,7 @@ use mathlib.Core.Path.{_≡_, refl, _∙_}
 use lib.ListN.{length}
 use lib.Ieee.{binary64}
 use Rattle.arithmetic_matrices.specs.Matrix.{tab, put}
-use Rattle.arithmetic_matrices.specs.Product.{rowDot}
+use Rattle.arithmetic_matrices.specs.Kernels.{rowDot}
 use Rattle.arithmetic_matrices.proofs.PartLaws.{put-none}
 use Rattle.arithmetic_matrices.proofs.ProductLaws.{rowDot-more}
 use Rattle.arithmetic_matrices.proofs.product.mult_row.Statement.{statement}

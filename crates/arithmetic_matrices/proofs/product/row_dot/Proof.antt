@@ -6,7 +6,8 @@ use native.Mathlib.Nat.{zero-mul}
 use mathlib.Core.Path.{_≡_}
 use lib.ListN.{getD}
 use lib.Ieee.{nan, binary64}
-use Rattle.arithmetic_matrices.specs.Product.{dot, rowDot}
+use Rattle.arithmetic_matrices.specs.Product.{dot}
+use Rattle.arithmetic_matrices.specs.Kernels.{rowDot}
 use Rattle.arithmetic_matrices.proofs.MatrixLaws.{more-rows, index-lt}
 use Rattle.arithmetic_matrices.proofs.ProductLaws.{dot-none, dot-more}
 use Rattle.arithmetic_matrices.proofs.product.row_dot.Statement.{statement}

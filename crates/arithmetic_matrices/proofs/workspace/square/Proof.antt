@@ -3,7 +3,7 @@ use Prim.Native.Nat.{_-_, _≤_}
 use native.Mathlib.Omega.{arith}
 use mathlib.Core.Path.{_≡_, _∙_}
 use lib.Ieee.{binary64}
-use Rattle.arithmetic_matrices.specs.Workspace.{Squared}
+use Rattle.arithmetic_matrices.specs.Kernels.{Squared}
 use Rattle.arithmetic_matrices.proofs.Slots.{squared-step, squared-none, eqb-swap, room-kept}
 use Rattle.arithmetic_matrices.proofs.workspace.square.Statement.{statement}
 use Rattle.arithmetic_matrices.proofs.workspace.square.Tie as tie

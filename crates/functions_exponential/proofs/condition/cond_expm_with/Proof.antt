@@ -10,9 +10,10 @@ use Rattle.arithmetic_questions.specs.Questions.{unary, anywhere, ofCondExpm}
 use Rattle.arithmetic_questions.proofs.QuestionLaws.{accepted}
 use Rattle.arithmetic_questions.proofs.AnswerLaws.{workspace-no}
 use Rattle.arithmetic_questions.proofs.OutputLaws.{kept-where}
-use Rattle.functions_exponential.specs.Derivatives.{condExpM}
-use Rattle.functions_exponential.specs.Calls.{condExpm}
-use Rattle.functions_exponential.proofs.ConditionLaws.{condition-refused, condition-passed, workspace-passed, late-condExpM}
+use Rattle.functions_definitions.specs.Derivatives.{condExpM}
+use Rattle.functions_definitions.specs.Calls.{condExpm}
+use Rattle.functions_exponential.proofs.ConditionLaws.{condition-refused, condition-passed, workspace-passed}
+use Rattle.functions_definitions.proofs.LateLaws.{late-condExpM}
 use borrow.Author.Needs.{needs}
 use Rattle.functions_exponential.proofs.condition.cond_expm_with.Statement.{statement}
 use Rattle.functions_exponential.proofs.condition.cond_expm_with.Tie as tie

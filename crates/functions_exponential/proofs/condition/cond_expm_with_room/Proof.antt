@@ -2,7 +2,7 @@
 use mathlib.Core.Path.{sym}
 use native.Mathlib.Omega.{arith}
 use lib.Seq.{length-take-le}
-use Rattle.functions_exponential.proofs.ConditionLaws.{square-le8}
+use Rattle.arithmetic_matrices.proofs.MatrixLaws.{square-le8}
 use borrow.Author.Needs.{needs}
 use Rattle.functions_exponential.proofs.condition.cond_expm_with_room.Statement.{statement}
 use Rattle.functions_exponential.proofs.condition.cond_expm_with_room.Tie as tie

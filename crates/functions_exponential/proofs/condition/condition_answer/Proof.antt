@@ -2,7 +2,7 @@
 use denote.Ref.{now}
 use lib.Ieee.{binary64}
 use Rattle.arithmetic_matrices.specs.Norm.{frobenius}
-use Rattle.functions_exponential.specs.Derivatives.{conditionOf}
+use Rattle.functions_definitions.specs.Derivatives.{conditionOf}
 use Rattle.functions_exponential.proofs.ConditionLaws.{answered-done, answered-none}
 use borrow.Author.Needs.{needs}
 use Rattle.functions_exponential.proofs.condition.condition_answer.Statement.{statement}

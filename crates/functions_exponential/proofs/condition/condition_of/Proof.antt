@@ -7,8 +7,8 @@ use lib.Ieee.{binary64, div, lt}
 use Rattle.arithmetic_floats.specs.Float.{+zero, one}
 use Rattle.arithmetic_floats.specs.Root.{sqrtOf}
 use Rattle.arithmetic_matrices.specs.Norm.{sumOfSquares, frobenius}
-use Rattle.functions_exponential.specs.Derivatives.{conditionOf}
-use Rattle.functions_exponential.proofs.ConditionLaws.{part-all}
+use Rattle.functions_definitions.specs.Derivatives.{conditionOf}
+use Rattle.arithmetic_matrices.proofs.PartLaws.{part-all}
 use borrow.Author.Needs.{needs}
 use Rattle.functions_exponential.proofs.condition.condition_of.Statement.{statement}
 use Rattle.functions_exponential.proofs.condition.condition_of.Tie as tie

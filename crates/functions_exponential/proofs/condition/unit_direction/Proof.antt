@@ -7,7 +7,7 @@ use lib.Ieee.{Float, binary64}
 use Rattle.arithmetic_matrices.specs.Product.{diagonalM}
 use Rattle.arithmetic_matrices.specs.Workspace.{store}
 use Rattle.arithmetic_matrices.proofs.MatrixLaws.{square-le}
-use Rattle.functions_exponential.specs.Derivatives.{unitDirection}
+use Rattle.functions_definitions.specs.Derivatives.{unitDirection}
 use Rattle.functions_exponential.proofs.ConditionLaws.{unit-number, unit-read}
 use borrow.Author.Needs.{needs}
 use Rattle.functions_exponential.proofs.condition.unit_direction.Statement.{statement}

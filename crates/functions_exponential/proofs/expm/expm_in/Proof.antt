@@ -6,9 +6,9 @@ use lib.Ieee.{binary64}
 use Rattle.arithmetic_questions.specs.Answers.{reported}
 use Rattle.arithmetic_matrices.specs.Norm.{norm1}
 use Rattle.arithmetic_matrices.specs.Workspace.{slot}
-use Rattle.functions_exponential.specs.Exponential.{exponential}
-use Rattle.functions_exponential.specs.Powers.{halvingsReport, expM}
-use Rattle.functions_exponential.proofs.HalvingLaws.{halved-none, halved-done}
+use Rattle.functions_definitions.specs.Exponential.{exponential}
+use Rattle.functions_definitions.specs.Powers.{halvingsReport, expM}
+use Rattle.functions_exponential.proofs.ExponentialLaws.{halved-none, halved-done}
 use borrow.Author.Needs.{needs}
 use Rattle.functions_exponential.proofs.expm.expm_in.Statement.{statement}
 use Rattle.functions_exponential.proofs.expm.expm_in.Tie as tie

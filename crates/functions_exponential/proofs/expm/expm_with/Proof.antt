@@ -11,9 +11,9 @@ use Rattle.arithmetic_questions.specs.Questions.{unary, anywhere, ofExpm}
 use Rattle.arithmetic_matrices.proofs.MatrixLaws.{square-le}
 use Rattle.arithmetic_questions.proofs.QuestionLaws.{accepted}
 use Rattle.arithmetic_questions.proofs.OutputLaws.{one-refused, one-done}
-use Rattle.functions_exponential.specs.Powers.{expM}
-use Rattle.functions_exponential.specs.Calls.{expm}
-use Rattle.functions_exponential.proofs.ExponentialLaws.{late-expM}
+use Rattle.functions_definitions.specs.Powers.{expM}
+use Rattle.functions_definitions.specs.Calls.{expm}
+use Rattle.functions_definitions.proofs.LateLaws.{late-expM}
 use borrow.Author.Needs.{needs}
 use Rattle.functions_exponential.proofs.expm.expm_with.Statement.{statement}
 use Rattle.functions_exponential.proofs.expm.expm_with.Tie as tie

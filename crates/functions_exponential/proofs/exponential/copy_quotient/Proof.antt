@@ -5,7 +5,8 @@ use denote.Ref.{now}
 use lib.ListN.{length}
 use Rattle.arithmetic_matrices.proofs.MatrixLaws.{square-le}
 use Rattle.arithmetic_matrices.proofs.Slots.{length-slot}
-use Rattle.functions_exponential.proofs.ExponentialLaws.{quotient-part, rest-length, length-standIn}
+use Rattle.functions_exponential.proofs.ExponentialLaws.{quotient-part, length-standIn}
+use Rattle.arithmetic_matrices.proofs.PartLaws.{rest-length}
 use borrow.Author.Needs.{needs}
 use Rattle.functions_exponential.proofs.exponential.copy_quotient.Statement.{statement}
 use Rattle.functions_exponential.proofs.exponential.copy_quotient.Tie as tie

@@ -3,7 +3,7 @@ use Prim.Native.Nat.{ℕ, _+_, _-_, _*_, _≤_, _<_}
 use native.Mathlib.Nat.{mul-le-mul}
 use native.Mathlib.Numerals.{add-one}
 use native.Mathlib.Omega.{arith}
-use Rattle.functions_exponential.specs.Exponential.{nextCoefficient}
+use Rattle.functions_definitions.specs.Exponential.{nextCoefficient}
 use borrow.Author.Needs.{needs}
 use Rattle.functions_exponential.proofs.exponential.next_coefficient.Statement.{statement}
 use Rattle.functions_exponential.proofs.exponential.next_coefficient.Tie as tie

@@ -7,7 +7,7 @@ use lib.Ieee.{binary64}
 use Rattle.arithmetic_floats.proofs.Constants.{one-bits}
 use Rattle.arithmetic_matrices.specs.Workspace.{slot, Room}
 use Rattle.arithmetic_matrices.proofs.States.{State, listed}
-use Rattle.functions_exponential.specs.Exponential.{coefficient, nextCoefficient}
+use Rattle.functions_definitions.specs.Exponential.{coefficient, nextCoefficient}
 use Rattle.functions_exponential.proofs.ExponentialLaws.{summing, sums, sums-none, sums-begin, sums-more, sums-all, sums-end, coefficient-more}
 use Rattle.functions_exponential.proofs.exponential.pade_sums.Statement.{statement}
 use Rattle.functions_exponential.proofs.exponential.pade_sums.Tie as tie

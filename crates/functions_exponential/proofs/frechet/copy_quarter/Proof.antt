@@ -5,9 +5,9 @@ use mathlib.Core.Path.{_≡_, refl, ap, _∙_}
 use native.Mathlib.Omega.{arith}
 use borrow.Author.Needs.{needs}
 use lib.ListN.{length}
-use Rattle.arithmetic_matrices.specs.Matrix.{rowsTo, withRow}
+use Rattle.arithmetic_matrices.specs.Kernels.{rowsTo, withRow}
 use Rattle.arithmetic_matrices.proofs.PatchLaws.{length-rowsTo, rows-none, rows-more, rows-all}
-use Rattle.functions_exponential.specs.Exponential.{quarterRow, quarter}
+use Rattle.functions_definitions.specs.Exponential.{quarterRow, quarter}
 use Rattle.functions_exponential.proofs.frechet.copy_quarter.Statement.{statement}
 use Rattle.functions_exponential.proofs.frechet.copy_quarter.Tie as tie
 

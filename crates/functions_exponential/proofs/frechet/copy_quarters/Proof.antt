@@ -6,8 +6,8 @@ use denote.Ref.{now}
 use lib.Seq.{length-take-le}
 use Rattle.arithmetic_matrices.specs.Workspace.{slot}
 use Rattle.arithmetic_matrices.proofs.MatrixLaws.{square-le}
-use Rattle.functions_exponential.specs.Exponential.{quarter}
-use Rattle.functions_exponential.proofs.ExponentialLaws.{take-part}
+use Rattle.functions_definitions.specs.Exponential.{quarter}
+use Rattle.arithmetic_matrices.proofs.PartLaws.{take-part}
 use borrow.Author.Needs.{needs}
 use Rattle.functions_exponential.proofs.frechet.copy_quarters.Statement.{statement}
 use Rattle.functions_exponential.proofs.frechet.copy_quarters.Tie as tie

@@ -8,10 +8,11 @@ use lib.Ieee.{binary64}
 use Rattle.arithmetic_questions.specs.Questions.{binary, anywhere, ofFrechetExpm}
 use Rattle.arithmetic_questions.proofs.QuestionLaws.{accepted-directed}
 use Rattle.arithmetic_questions.proofs.BothLaws.{two-refused}
-use Rattle.functions_exponential.specs.Derivatives.{frechetExpM}
-use Rattle.functions_exponential.specs.Calls.{frechetExpm}
-use Rattle.functions_exponential.proofs.FrechetLaws.{two-written, late-frechetExpM}
-use Rattle.functions_exponential.proofs.FirstOutput.{written-alone, refused-alone, counted}
+use Rattle.functions_definitions.specs.Derivatives.{frechetExpM}
+use Rattle.functions_definitions.specs.Calls.{frechetExpm}
+use Rattle.functions_exponential.proofs.FrechetLaws.{two-written, written-alone}
+use Rattle.functions_definitions.proofs.LateLaws.{late-frechetExpM}
+use Rattle.functions_definitions.proofs.FirstOutput.{refused-alone, counted}
 use borrow.Author.Needs.{needs}
 use Rattle.functions_exponential.proofs.frechet.frechet_expm_with.Statement.{statement}
 use Rattle.functions_exponential.proofs.frechet.frechet_expm_with.Tie as tie

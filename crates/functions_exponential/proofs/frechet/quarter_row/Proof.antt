@@ -6,10 +6,11 @@ use mathlib.Core.List.{List}
 use native.Mathlib.Omega.{arith}
 use lib.ListN.{length, set}
 use lib.Ieee.{Float}
-use Rattle.arithmetic_matrices.specs.Matrix.{at, rowTo, withRow}
+use Rattle.arithmetic_matrices.specs.Matrix.{at}
+use Rattle.arithmetic_matrices.specs.Kernels.{rowTo, withRow}
 use Rattle.arithmetic_matrices.proofs.MatrixLaws.{index-lt}
 use Rattle.arithmetic_matrices.proofs.PatchLaws.{length-rowTo, row-none, row-more}
-use Rattle.functions_exponential.specs.Exponential.{quarterRow}
+use Rattle.functions_definitions.specs.Exponential.{quarterRow}
 use Rattle.functions_exponential.proofs.frechet.quarter_row.Statement.{statement}
 use Rattle.functions_exponential.proofs.frechet.quarter_row.Tie as tie
 

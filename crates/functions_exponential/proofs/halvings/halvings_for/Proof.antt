@@ -2,7 +2,7 @@
 use mathlib.Core.Path.{sym, subst}
 use lib.Dec.{T}
 use lib.Ieee.{binary64}
-use Rattle.functions_exponential.proofs.HalvingLaws.{not-done, passed-finite, refused-report, passed-report, passed-few}
+use Rattle.functions_definitions.proofs.HalvingLaws.{not-done, passed-finite, refused-report, passed-report, passed-few}
 use borrow.Author.Needs.{needs}
 use Rattle.functions_exponential.proofs.halvings.halvings_for.Statement.{statement}
 use Rattle.functions_exponential.proofs.halvings.halvings_for.Tie as tie

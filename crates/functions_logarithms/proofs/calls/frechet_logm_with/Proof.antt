@@ -9,9 +9,9 @@ use Rattle.arithmetic_questions.specs.Questions.{binary, positive, ofFrechetLog
 use Rattle.arithmetic_matrices.proofs.MatrixLaws.{square-le}
 use Rattle.arithmetic_questions.proofs.QuestionLaws.{accepted-directed}
 use Rattle.arithmetic_questions.proofs.BothLaws.{two-refused, two-done}
-use Rattle.functions_exponential.specs.Derivatives.{frechetLogM}
-use Rattle.functions_exponential.specs.Calls.{frechetLogm}
-use Rattle.functions_roots.proofs.CallLaws.{late-frechet-logarithm}
+use Rattle.functions_definitions.specs.Derivatives.{frechetLogM}
+use Rattle.functions_definitions.specs.Calls.{frechetLogm}
+use Rattle.functions_definitions.proofs.LateLaws.{late-frechet-logarithm}
 use native.Mathlib.Omega.{arith}
 use borrow.Author.Needs.{needs}
 use Rattle.functions_logarithms.proofs.calls.frechet_logm_with.Statement.{statement}

@@ -9,9 +9,9 @@ use Rattle.arithmetic_questions.specs.Questions.{unary, positive, ofLogm}
 use Rattle.arithmetic_matrices.proofs.MatrixLaws.{square-le}
 use Rattle.arithmetic_questions.proofs.QuestionLaws.{accepted}
 use Rattle.arithmetic_questions.proofs.OutputLaws.{one-refused, one-done}
-use Rattle.functions_exponential.specs.Logarithm.{logarithm}
-use Rattle.functions_exponential.specs.Calls.{logm}
-use Rattle.functions_roots.proofs.CallLaws.{late-logarithm}
+use Rattle.functions_definitions.specs.Logarithm.{logarithm}
+use Rattle.functions_definitions.specs.Calls.{logm}
+use Rattle.functions_definitions.proofs.LateLaws.{late-logarithm}
 use native.Mathlib.Omega.{arith}
 use borrow.Author.Needs.{needs}
 use Rattle.functions_logarithms.proofs.calls.logm_with.Statement.{statement}

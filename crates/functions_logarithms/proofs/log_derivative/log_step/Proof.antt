@@ -1,6 +1,6 @@
 -- `log_step` meets its contract: the constant is 2^-52. Assumes nothing.
 use lib.Ieee.{ofBits}
-use Rattle.functions_exponential.specs.Derivatives.{logStep}
+use Rattle.functions_definitions.specs.Derivatives.{logStep}
 use borrow.Author.Needs.{needs}
 use Rattle.functions_logarithms.proofs.log_derivative.log_step.Statement.{statement}
 use Rattle.functions_logarithms.proofs.log_derivative.log_step.Tie as tie

@@ -4,9 +4,9 @@ use mathlib.Core.Path.{_≡_, refl, ap, _∙_}
 use lib.ListN.{length}
 use lib.Ieee.{binary64}
 use Rattle.arithmetic_matrices.specs.Workspace.{Room, slot}
-use Rattle.functions_exponential.specs.Logarithm.{seriesStep}
-use Rattle.functions_roots.specs.Passes.{tested}
-use Rattle.functions_logarithms.specs.Rooting.{seriesIn}
+use Rattle.functions_definitions.specs.Logarithm.{seriesStep}
+use Rattle.functions_roots.specs.Kernels.{tested}
+use Rattle.functions_logarithms.specs.Kernels.{seriesIn}
 use Rattle.functions_roots.specs.declared.pass.Pass.the-variants.{Running, Stopped}
 use Rattle.functions_roots.proofs.PassLaws.{Passing, passing-none, passing-more, passing-stops, passing-out}
 use Rattle.functions_logarithms.proofs.LogarithmLaws.{summing, term-same, terms-added}

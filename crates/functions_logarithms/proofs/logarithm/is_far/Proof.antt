@@ -1,7 +1,7 @@
 -- `is_far` meets its contract: the constant is 0.1. Assumes nothing.
 use lib.Ieee.{ofBits, round}
 use Rattle.arithmetic_floats.specs.Float.{constant}
-use Rattle.functions_exponential.specs.Logarithm.{isFar, near}
+use Rattle.functions_definitions.specs.Logarithm.{isFar, near}
 use borrow.Author.Needs.{needs}
 use Rattle.functions_logarithms.proofs.logarithm.is_far.Statement.{statement}
 use Rattle.functions_logarithms.proofs.logarithm.is_far.Tie as tie

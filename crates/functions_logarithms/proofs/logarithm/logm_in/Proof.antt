@@ -1,7 +1,7 @@
 -- `logm_in` meets its contract: a law for each end of the roots. Assumes nothing.
 use mathlib.Core.Path.{ap}
 use lib.Ieee.{binary64}
-use Rattle.functions_logarithms.specs.Rooting.{countOf}
+use Rattle.functions_logarithms.specs.Kernels.{countOf}
 use Rattle.functions_logarithms.proofs.LogarithmLaws.{logarithm-done, logarithm-refused}
 use native.Mathlib.Omega.{arith}
 use borrow.Author.Needs.{needs}

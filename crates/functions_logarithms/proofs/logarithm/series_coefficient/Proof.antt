@@ -2,7 +2,7 @@
 use Prim.Native.Nat.{_%_}
 use borrow.Author.Tests.{eq-eqb, ne-eqb}
 use lib.Ieee.{ofBits, neg}
-use Rattle.functions_exponential.specs.Logarithm.{seriesCoefficient}
+use Rattle.functions_definitions.specs.Logarithm.{seriesCoefficient}
 use borrow.Author.Needs.{needs}
 use Rattle.functions_logarithms.proofs.logarithm.series_coefficient.Statement.{statement}
 use Rattle.functions_logarithms.proofs.logarithm.series_coefficient.Tie as tie

@@ -4,7 +4,7 @@ use mathlib.Core.Path.{_≡_, refl, _∙_}
 use lib.ListN.{length}
 use lib.Ieee.{binary64}
 use Rattle.arithmetic_matrices.specs.Workspace.{Room, slot}
-use Rattle.functions_exponential.specs.Roots.{newtonStep}
+use Rattle.functions_definitions.specs.Roots.{newtonStep}
 use Rattle.functions_roots.proofs.PassLaws.{Passing, passing-none, passing-more, passing-stops, passing-fails, passing-out}
 use Rattle.functions_logarithms.proofs.NewtonLaws.{root, used, newton-same}
 use native.Mathlib.Omega.{arith}

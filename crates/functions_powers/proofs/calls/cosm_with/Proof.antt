@@ -9,8 +9,8 @@ use Rattle.arithmetic_questions.specs.Questions.{unary, anywhere, ofCosm}
 use Rattle.arithmetic_matrices.proofs.MatrixLaws.{square-le}
 use Rattle.arithmetic_questions.proofs.QuestionLaws.{accepted}
 use Rattle.arithmetic_questions.proofs.OutputLaws.{one-refused, one-done}
-use Rattle.functions_exponential.specs.Trigonometric.{cosM}
-use Rattle.functions_exponential.specs.Calls.{cosm}
+use Rattle.functions_definitions.specs.Trigonometric.{cosM}
+use Rattle.functions_definitions.specs.Calls.{cosm}
 use Rattle.functions_powers.proofs.SeriesLaws.{cosine-late}
 use native.Mathlib.Omega.{arith}
 use borrow.Author.Needs.{needs}

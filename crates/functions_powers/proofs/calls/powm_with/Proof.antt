@@ -9,9 +9,9 @@ use Rattle.arithmetic_questions.specs.Questions.{powered, anywhere, ofPowm}
 use Rattle.arithmetic_matrices.proofs.MatrixLaws.{square-le}
 use Rattle.arithmetic_questions.proofs.QuestionLaws.{accepted}
 use Rattle.arithmetic_questions.proofs.OutputLaws.{one-refused, one-done}
-use Rattle.functions_exponential.specs.Powers.{powerM}
-use Rattle.functions_exponential.specs.Calls.{powm}
-use Rattle.functions_powers.proofs.PowerLaws.{late-power}
+use Rattle.functions_definitions.specs.Powers.{powerM}
+use Rattle.functions_definitions.specs.Calls.{powm}
+use Rattle.functions_definitions.proofs.LateLaws.{late-power}
 use native.Mathlib.Omega.{arith}
 use borrow.Author.Needs.{needs}
 use Rattle.functions_powers.proofs.calls.powm_with.Statement.{statement}

@@ -9,8 +9,8 @@ use Rattle.arithmetic_questions.specs.Questions.{unary, anywhere, ofSinm}
 use Rattle.arithmetic_matrices.proofs.MatrixLaws.{square-le}
 use Rattle.arithmetic_questions.proofs.QuestionLaws.{accepted}
 use Rattle.arithmetic_questions.proofs.OutputLaws.{one-refused, one-done}
-use Rattle.functions_exponential.specs.Trigonometric.{sinM}
-use Rattle.functions_exponential.specs.Calls.{sinm}
+use Rattle.functions_definitions.specs.Trigonometric.{sinM}
+use Rattle.functions_definitions.specs.Calls.{sinm}
 use Rattle.functions_powers.proofs.SeriesLaws.{sine-late}
 use native.Mathlib.Omega.{arith}
 use borrow.Author.Needs.{needs}

@@ -7,9 +7,9 @@ use Rattle.arithmetic_floats.specs.Float.{one}
 use Rattle.arithmetic_floats.proofs.Constants.{one-bits}
 use Rattle.arithmetic_matrices.specs.Norm.{norm1}
 use Rattle.arithmetic_matrices.specs.Workspace.{slot}
-use Rattle.functions_exponential.specs.Powers.{halvingsReport}
-use Rattle.functions_exponential.specs.Trigonometric.{cosineAt, trigonometricHalvings, cosM}
-use Rattle.functions_exponential.proofs.HalvingLaws.{halved-none, halved-done}
+use Rattle.functions_definitions.specs.Powers.{halvingsReport}
+use Rattle.functions_definitions.specs.Trigonometric.{cosineAt, trigonometricHalvings, cosM}
+use Rattle.functions_exponential.proofs.ExponentialLaws.{halved-none, halved-done}
 use native.Mathlib.Omega.{arith}
 use borrow.Author.Needs.{needs}
 use Rattle.functions_powers.proofs.cosine.cosm_in.Statement.{statement}

@@ -3,7 +3,7 @@ use Prim.Native.Nat.{_-_, _≤_}
 use mathlib.Core.Path.{_≡_}
 use lib.Ieee.{binary64}
 use Rattle.arithmetic_matrices.proofs.Slots.{room-kept}
-use Rattle.functions_powers.specs.Series.{CosineAfter}
+use Rattle.functions_powers.specs.Kernels.{CosineAfter}
 use Rattle.functions_powers.proofs.SeriesLaws.{cosine-none, cosine-more}
 use native.Mathlib.Omega.{arith}
 use Rattle.functions_powers.proofs.cosine.double_cosines.Statement.{statement}

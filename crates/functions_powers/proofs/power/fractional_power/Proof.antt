@@ -3,9 +3,8 @@ use mathlib.Core.Path.{refl}
 use mathlib.Core.List.{[], _∷_}
 use lib.Ieee.{binary64}
 use Rattle.arithmetic_matrices.specs.Workspace.{slot}
-use Rattle.functions_exponential.specs.Logarithm.{logarithm}
-use Rattle.functions_exponential.specs.Powers.{fractionalPower}
-use Rattle.functions_powers.specs.Whole.{multipleExponential}
+use Rattle.functions_definitions.specs.Logarithm.{logarithm}
+use Rattle.functions_definitions.specs.Powers.{fractionalPower, multipleExponential}
 use Rattle.functions_powers.proofs.ReplacedLaws.{then-refused, then-replaced}
 use borrow.Author.Needs.{needs}
 use Rattle.functions_powers.proofs.power.fractional_power.Statement.{statement}

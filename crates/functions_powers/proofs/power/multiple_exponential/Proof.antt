@@ -6,7 +6,7 @@ use Rattle.arithmetic_matrices.specs.Product.{timesM}
 use Rattle.arithmetic_matrices.specs.Workspace.{slot, member}
 use Rattle.arithmetic_questions.specs.Result.{done}
 use Rattle.arithmetic_matrices.proofs.Slots.{only-refl}
-use Rattle.functions_exponential.specs.Powers.{expM}
+use Rattle.functions_definitions.specs.Powers.{expM}
 use Rattle.functions_powers.proofs.ReplacedLaws.{replaced-by, then-refused, then-replaced}
 use Rattle.functions_powers.proofs.PowerLaws.{multiple-replaced}
 use borrow.Author.Needs.{needs}

@@ -4,7 +4,7 @@ use mathlib.Core.List.{List, [], _∷_}
 use lib.Ieee.{Float, binary64}
 use Rattle.arithmetic_matrices.specs.Workspace.{slot, member}
 use Rattle.arithmetic_questions.specs.Result.{Result}
-use Rattle.arithmetic_questions.specs.Outputs.{Replaced}
+use Rattle.arithmetic_questions.specs.Kernels.{Replaced}
 use Rattle.arithmetic_matrices.proofs.Slots.{only-refl}
 use Rattle.functions_powers.proofs.ReplacedLaws.{replaced-more}
 use Rattle.functions_powers.proofs.WholeLaws.{whole-read}

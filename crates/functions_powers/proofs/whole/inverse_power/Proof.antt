@@ -5,8 +5,8 @@ use lib.Ieee.{binary64}
 use Rattle.arithmetic_matrices.specs.Workspace.{slot}
 use Rattle.arithmetic_questions.specs.Result.{done}
 use Rattle.lu_factoring.specs.Solve.{inverse}
-use Rattle.functions_exponential.specs.Roots.{orNotConverged}
-use Rattle.functions_exponential.specs.Powers.{bitPower}
+use Rattle.functions_definitions.specs.Roots.{orNotConverged}
+use Rattle.functions_definitions.specs.Powers.{bitPower}
 use Rattle.functions_powers.proofs.ReplacedLaws.{replaced-by, then-refused, then-replaced}
 use borrow.Author.Needs.{needs}
 use Rattle.functions_powers.proofs.whole.inverse_power.Statement.{statement}

@@ -5,7 +5,7 @@ use native.Mathlib.Nat.{div-one}
 use lib.Dec.{lit≤}
 use lib.Ieee.{binary64}
 use Rattle.arithmetic_matrices.proofs.Slots.{room-kept}
-use Rattle.functions_powers.specs.Whole.{BitsMultiplied}
+use Rattle.functions_powers.specs.Kernels.{BitsMultiplied}
 use Rattle.functions_powers.proofs.WholeLaws.{rest-more, bits-none, bits-more, bits-all}
 use native.Mathlib.Omega.{arith}
 use Rattle.functions_powers.proofs.whole.multiply_bits.Statement.{statement}

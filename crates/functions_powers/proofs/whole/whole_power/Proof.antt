@@ -6,9 +6,8 @@ use lib.Ieee.{Float, binary64}
 use Rattle.arithmetic_questions.specs.declared.answer.Outcome.the-variants.{Done}
 use Rattle.arithmetic_matrices.specs.Workspace.{slot}
 use Rattle.arithmetic_questions.specs.Result.{Result, done}
-use Rattle.arithmetic_questions.specs.Outputs.{Replaced}
-use Rattle.functions_exponential.specs.Powers.{bitPower}
-use Rattle.functions_powers.specs.Whole.{negativePower}
+use Rattle.arithmetic_questions.specs.Kernels.{Replaced}
+use Rattle.functions_definitions.specs.Powers.{bitPower, inversePower}
 use Rattle.functions_powers.proofs.WholeLaws.{sign-of, size-read, whole-negative, whole-positive}
 use Rattle.functions_powers.proofs.ReplacedLaws.{replaced-by}
 use borrow.Author.Needs.{needs}
@@ -20,7 +19,7 @@ returns c =
     let (call, size-of, taken1, is-negative, s) : tie.After-inverse-power × tie.After-size-of × tie.Then1 × tie.After-is-negative × tie.Start = search in
     let a = s .args in
     let x = slot (a .n) (a .w .now) 0 in
-    let e = ap (negativePower binary64 (a .n) x) (size-read (a .e) (s .fits .e) (size-of .size-of .ensures)) ∙ sym (whole-negative binary64 (a .n) x (a .e) (sign-of (a .e) (s .fits .e) (is-negative .is-negative .ensures) (taken1 .if1 .taken))) in
+    let e = ap (inversePower binary64 (a .n) x) (size-read (a .e) (s .fits .e) (size-of .size-of .ensures)) ∙ sym (whole-negative binary64 (a .n) x (a .e) (sign-of (a .e) (s .fits .e) (is-negative .is-negative .ensures) (taken1 .if1 .taken))) in
     subst (λ (v : Result (List Float)). Replaced (0 ∷ 1 ∷ 2 ∷ []) (a .n) v (call .inverse-power .result) (a .w .now) (call .inverse-power .last .0)) e (call .inverse-power .ensures)
 
 returns-2 : tie.Need-returns-2

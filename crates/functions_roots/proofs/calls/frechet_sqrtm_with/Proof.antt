@@ -10,10 +10,10 @@ use Rattle.arithmetic_questions.specs.Questions.{binary, nonnegative, ofFrechet
 use Rattle.arithmetic_matrices.proofs.MatrixLaws.{square-le}
 use Rattle.arithmetic_questions.proofs.QuestionLaws.{accepted-directed}
 use Rattle.arithmetic_questions.proofs.BothLaws.{two-refused, two-done}
-use Rattle.functions_exponential.specs.Derivatives.{frechetSqrtM}
-use Rattle.functions_exponential.specs.Calls.{frechetSqrtm}
+use Rattle.functions_definitions.specs.Derivatives.{frechetSqrtM}
+use Rattle.functions_definitions.specs.Calls.{frechetSqrtm}
 use Rattle.functions_roots.proofs.RootDerivativeLaws.{bothSlots}
-use Rattle.functions_roots.proofs.CallLaws.{late-frechet-root}
+use Rattle.functions_definitions.proofs.LateLaws.{late-frechet-root}
 use native.Mathlib.Omega.{arith}
 use borrow.Author.Needs.{needs}
 use Rattle.functions_roots.proofs.calls.frechet_sqrtm_with.Statement.{statement}

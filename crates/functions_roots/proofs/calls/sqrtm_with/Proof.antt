@@ -9,9 +9,9 @@ use Rattle.arithmetic_questions.specs.Questions.{unary, nonnegative, ofSqrtm}
 use Rattle.arithmetic_matrices.proofs.MatrixLaws.{square-le}
 use Rattle.arithmetic_questions.proofs.QuestionLaws.{accepted}
 use Rattle.arithmetic_questions.proofs.OutputLaws.{one-refused, one-done}
-use Rattle.functions_exponential.specs.Roots.{squareRoot}
-use Rattle.functions_exponential.specs.Calls.{sqrtm}
-use Rattle.functions_roots.proofs.CallLaws.{late-root}
+use Rattle.functions_definitions.specs.Roots.{squareRoot}
+use Rattle.functions_definitions.specs.Calls.{sqrtm}
+use Rattle.functions_definitions.proofs.LateLaws.{late-root}
 use native.Mathlib.Omega.{arith}
 use borrow.Author.Needs.{needs}
 use Rattle.functions_roots.proofs.calls.sqrtm_with.Statement.{statement}

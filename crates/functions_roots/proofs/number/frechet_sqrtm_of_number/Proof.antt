@@ -8,9 +8,9 @@ use Rattle.arithmetic_floats.specs.Root.{sqrtOf}
 use Rattle.arithmetic_matrices.specs.Matrix.{item}
 use Rattle.arithmetic_questions.specs.Result.{_>>=_}
 use Rattle.arithmetic_questions.specs.Questions.{binary, ofFrechetSqrtm}
-use Rattle.functions_exponential.specs.Roots.{squareRoot}
-use Rattle.functions_exponential.specs.Derivatives.{scalarDerivative, rootDerivative, frechetSqrtM}
-use Rattle.functions_exponential.specs.Calls.{frechetSqrtm}
+use Rattle.functions_definitions.specs.Roots.{squareRoot}
+use Rattle.functions_definitions.specs.Derivatives.{scalarDerivative, rootDerivative, frechetSqrtM}
+use Rattle.functions_definitions.specs.Calls.{frechetSqrtm}
 use Rattle.functions_roots.proofs.NumberLaws.{derivative-lengths, stored, numbers-refused, numbers-done}
 use native.Mathlib.Omega.{arith}
 use borrow.Author.Needs.{needs}

@@ -7,8 +7,8 @@ use Rattle.arithmetic_floats.specs.Root.{sqrtOf}
 use Rattle.arithmetic_matrices.specs.Matrix.{item}
 use Rattle.arithmetic_questions.specs.Questions.{unary, ofSqrtm}
 use Rattle.arithmetic_questions.proofs.OutputLaws.{output-refused, output-done}
-use Rattle.functions_exponential.specs.Roots.{squareRoot}
-use Rattle.functions_exponential.specs.Calls.{sqrtm}
+use Rattle.functions_definitions.specs.Roots.{squareRoot}
+use Rattle.functions_definitions.specs.Calls.{sqrtm}
 use Rattle.functions_roots.proofs.NumberLaws.{root-lengths, stored}
 use native.Mathlib.Omega.{arith}
 use borrow.Author.Needs.{needs}

@@ -6,8 +6,8 @@ use lib.Dec.{T}
 use lib.Ieee.{Float, fin, binary64, fits, lt, le, mul, ofBits, ofInt}
 use Rattle.arithmetic_floats.specs.Root.{sqrtOf}
 use Rattle.arithmetic_floats.proofs.RootBounds.{root-not-below}
-use Rattle.functions_exponential.specs.Roots.{rootTolerance}
-use Rattle.functions_roots.specs.Passes.{tested}
+use Rattle.functions_definitions.specs.Roots.{rootTolerance}
+use Rattle.functions_roots.specs.Kernels.{tested}
 use borrow.Author.Needs.{needs}
 use Rattle.functions_roots.proofs.pass.root_verdict.Statement.{statement}
 use Rattle.functions_roots.proofs.pass.root_verdict.Tie as tie

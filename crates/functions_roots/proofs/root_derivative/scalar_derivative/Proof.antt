@@ -1,6 +1,6 @@
 -- `scalar_derivative` meets its contract. Assumes nothing.
 use lib.Ieee.{ofBits}
-use Rattle.functions_exponential.specs.Derivatives.{scalarDerivative}
+use Rattle.functions_definitions.specs.Derivatives.{scalarDerivative}
 use Rattle.functions_roots.proofs.root_derivative.scalar_derivative.Statement.{statement}
 use Rattle.functions_roots.proofs.root_derivative.scalar_derivative.Tie as tie
 

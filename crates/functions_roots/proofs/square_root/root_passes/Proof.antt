@@ -4,9 +4,9 @@ use mathlib.Core.Path.{_≡_, refl, _∙_}
 use lib.ListN.{length}
 use lib.Ieee.{binary64}
 use Rattle.arithmetic_matrices.specs.Workspace.{Room}
-use Rattle.functions_exponential.specs.Roots.{denmanBeaversStep}
+use Rattle.functions_definitions.specs.Roots.{denmanBeaversStep}
 use Rattle.functions_roots.proofs.PassLaws.{Passing, passing-none, passing-more, passing-stops, passing-fails, passing-out}
-use Rattle.functions_roots.specs.Passes.{pairIn}
+use Rattle.functions_roots.specs.Kernels.{pairIn}
 use Rattle.functions_roots.proofs.SquareRootLaws.{used}
 use native.Mathlib.Omega.{arith}
 use borrow.Author.Needs.{needs}

@@ -3,9 +3,9 @@ use Prim.Native.Nat.{_*_, _-_, _<_, _≤_}
 use native.Mathlib.Nat.{zero-mul, mul-le-mul}
 use mathlib.Core.Path.{_≡_}
 use lib.Ieee.{binary64}
-use Rattle.functions_exponential.specs.Kronecker.{blockRow}
-use Rattle.functions_exponential.specs.Derivatives.{sylvesterEntry, sylvesterMatrix}
-use Rattle.functions_exponential.proofs.KroneckerLaws.{Filled, allRows, filled-none, filled-blocks, filled-all, rows-end}
+use Rattle.arithmetic_matrices.specs.Kernels.{blockRow}
+use Rattle.functions_definitions.specs.Derivatives.{sylvesterEntry, sylvesterMatrix}
+use Rattle.arithmetic_matrices.proofs.FilledLaws.{Filled, allRows, filled-none, filled-blocks, filled-all, rows-end}
 use native.Mathlib.Omega.{arith}
 use borrow.Author.Needs.{needs}
 use Rattle.functions_roots.proofs.sylvester.sylvester_into.Statement.{statement}

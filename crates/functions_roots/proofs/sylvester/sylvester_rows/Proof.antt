@@ -3,9 +3,9 @@ use Prim.Native.Nat.{_*_, _-_, _<_, _≤_}
 use mathlib.Core.Path.{_≡_}
 use lib.Ieee.{binary64}
 use Rattle.arithmetic_matrices.proofs.MatrixLaws.{row-end}
-use Rattle.functions_exponential.specs.Kronecker.{blockRow}
-use Rattle.functions_exponential.specs.Derivatives.{sylvesterEntry}
-use Rattle.functions_exponential.proofs.KroneckerLaws.{Filled, filled-none, filled-more}
+use Rattle.arithmetic_matrices.specs.Kernels.{blockRow}
+use Rattle.functions_definitions.specs.Derivatives.{sylvesterEntry}
+use Rattle.arithmetic_matrices.proofs.FilledLaws.{Filled, filled-none, filled-more}
 use native.Mathlib.Omega.{arith}
 use borrow.Author.Needs.{needs}
 use Rattle.functions_roots.proofs.sylvester.sylvester_rows.Statement.{statement}

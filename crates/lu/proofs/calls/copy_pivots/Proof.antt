@@ -2,7 +2,7 @@
 use Prim.Native.Nat.{_-_, _≤_}
 use mathlib.Core.Path.{_≡_, refl, _∙_}
 use lib.ListN.{length, getD, length-set}
-use Rattle.arithmetic_matrices.specs.Matrix.{patch}
+use Rattle.arithmetic_matrices.specs.Kernels.{patch}
 use Rattle.arithmetic_matrices.proofs.MatrixLaws.{tab-getD}
 use Rattle.arithmetic_matrices.proofs.PatchLaws.{patch-none, patch-more, patch-all}
 use native.Mathlib.Omega.{arith}

@@ -4,7 +4,8 @@ use Prim.Native.Nat.{_≤_, _-_}
 use mathlib.Core.Path.{_≡_, refl, ap, _∙_}
 use lib.ListN.{length, length-set}
 use lib.Ieee.{nan}
-use Rattle.arithmetic_matrices.specs.Matrix.{patch, at}
+use Rattle.arithmetic_matrices.specs.Kernels.{patch}
+use Rattle.arithmetic_matrices.specs.Matrix.{at}
 use Rattle.arithmetic_matrices.proofs.PatchLaws.{patch-none}
 use Rattle.lu_factoring.proofs.ColumnLaws.{load-turn, load-all}
 use native.Mathlib.Omega.{arith}

@@ -3,7 +3,7 @@
 use Prim.Native.Nat.{_≤_, _-_}
 use mathlib.Core.Path.{_≡_, refl, ap, _∙_}
 use lib.Ieee.{binary64}
-use Rattle.lu_factoring.specs.Solve.{product, determinantOf, signOf}
+use Rattle.lu_factoring.specs.Solve.{signedProduct, determinantOf, signOf}
 use Rattle.lu_factoring.proofs.SolveLaws.{product-turn}
 use native.Mathlib.Omega.{arith}
 use borrow.Author.Needs.{needs}
@@ -11,13 +11,13 @@ use Rattle.lu.proofs.substitution.determinant.Statement.{statement}
 use Rattle.lu.proofs.substitution.determinant.Tie as tie
 
 abbrev Inv-loop : tie.InvT-loop
-Inv-loop f n pivots d₀ k₀ d k = (k ≤ n) × (d ≡ product binary64 n f d₀ k)
+Inv-loop f n pivots d₀ k₀ d k = (k ≤ n) × (d ≡ signedProduct binary64 n f d₀ k)
 
 abbrev μ-loop : tie.MeasureT-loop
 μ-loop f n pivots d₀ k₀ d k = n - k
 
 loop-holds : tie.Need-loop-holds Inv-loop μ-loop
-unfolding product
+unfolding signedProduct
 loop-holds c = (omega arith, refl)
 
 loop-again : tie.Need-loop-again Inv-loop μ-loop
@@ -39,8 +39,8 @@ returns c =
     let a = start .args in
     let e : l .k ≡ a .n = omega arith in
     l .inv .1
-    ∙ ap (product binary64 (a .n) (a .f .now) (first .sign .result)) e
-    ∙ ap (λ s. product binary64 (a .n) (a .f .now) s (a .n)) (first .sign .ensures ∙ ap signOf (count .swap-count .ensures))
+    ∙ ap (signedProduct binary64 (a .n) (a .f .now) (first .sign .result)) e
+    ∙ ap (λ s. signedProduct binary64 (a .n) (a .f .now) s (a .n)) (first .sign .ensures ∙ ap signOf (count .swap-count .ensures))
 
 pub determinant-spec : {M : Type 1} → statement M
 determinant-spec =

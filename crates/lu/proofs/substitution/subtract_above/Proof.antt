@@ -4,9 +4,9 @@ use Prim.Native.Nat.{_≤_, _-_}
 use mathlib.Core.Path.{_≡_, refl, ap, _∙_}
 use lib.ListN.{length, getD, length-set}
 use lib.Ieee.{binary64, nan}
-use Rattle.arithmetic_matrices.specs.Matrix.{patch}
+use Rattle.arithmetic_matrices.specs.Kernels.{patch}
 use Rattle.arithmetic_matrices.proofs.PatchLaws.{patch-none}
-use Rattle.lu_factoring.specs.Solve.{lowered}
+use Rattle.lu_factoring.specs.Kernels.{lowered}
 use Rattle.lu_factoring.proofs.SolveLaws.{back-row}
 use native.Mathlib.Omega.{arith}
 use borrow.Author.Needs.{needs}

@@ -5,7 +5,7 @@ use mathlib.Core.Path.{_≡_, ap, _∙_}
 use lib.ListN.{length}
 use lib.Ieee.{binary64, emax, hid, div, ofBits}
 use Rattle.arithmetic_floats.specs.Float.{one}
-use Rattle.arithmetic_matrices.specs.Matrix.{rowsTo}
+use Rattle.arithmetic_matrices.specs.Kernels.{rowsTo}
 use Rattle.arithmetic_matrices.proofs.PatchLaws.{length-rowsTo}
 use Rattle.lu_factoring.proofs.LuLaws.{eliminatedEntry, eliminate-none, eliminate-turn, eliminate-all}
 use native.Mathlib.Omega.{arith}

@@ -5,7 +5,7 @@ use mathlib.Core.Path.{_≡_, refl, ap, _∙_}
 use mathlib.Core.Bool.{true, false}
 use lib.ListN.{length, set, length-set}
 use lib.Ieee.{binary64}
-use Rattle.arithmetic_matrices.specs.Matrix.{patch}
+use Rattle.arithmetic_matrices.specs.Kernels.{patch}
 use Rattle.arithmetic_matrices.proofs.PatchLaws.{patch-none}
 use Rattle.lu_factoring.specs.Lu.{luAt, luPivot, luFrom, luOutcome}
 use Rattle.lu_factoring.proofs.LuLaws.{length-eliminated, lu-turn, pivots-turn, refused-is, pass, refuse, finish}

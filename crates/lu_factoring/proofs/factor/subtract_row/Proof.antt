@@ -4,9 +4,9 @@ use Prim.Native.Nat.{_≤_, _<_, _-_, _*_, _+_}
 use mathlib.Core.Path.{_≡_, ap, _∙_}
 use lib.ListN.{length}
 use lib.Ieee.{binary64}
-use Rattle.arithmetic_matrices.specs.Matrix.{rowTo, withRow}
+use Rattle.arithmetic_matrices.specs.Kernels.{rowTo, withRow}
 use Rattle.arithmetic_matrices.proofs.PatchLaws.{length-rowTo}
-use Rattle.lu_factoring.specs.Lu.{subtracted}
+use Rattle.lu_factoring.specs.Kernels.{subtracted}
 use Rattle.lu_factoring.proofs.LuLaws.{subtract-none, subtract-turn}
 use native.Mathlib.Omega.{arith}
 use borrow.Author.Needs.{needs}

@@ -8,7 +8,7 @@ use lib.Ieee.{binary64}
 use Rattle.arithmetic_matrices.specs.Matrix.{part, put}
 use Rattle.arithmetic_matrices.proofs.MatrixLaws.{row-end}
 use Rattle.arithmetic_matrices.proofs.PartLaws.{apart-within}
-use Rattle.lu_factoring.specs.Solve.{eachColumn}
+use Rattle.lu_factoring.specs.Kernels.{eachColumn}
 use Rattle.lu_systems.proofs.ByRows.{row-down, rows-from, backFrom, back-rows-none, back-rows-turn, back-rows-all}
 use Rattle.lu_systems.proofs.rows.back_by_rows.Statement.{statement}
 use Rattle.lu_systems.proofs.rows.back_by_rows.Tie as tie

@@ -9,7 +9,7 @@ use lib.Ieee.{binary64}
 use Rattle.arithmetic_matrices.specs.Matrix.{part, put}
 use Rattle.arithmetic_matrices.proofs.MatrixLaws.{row-end, more-rows}
 use Rattle.arithmetic_matrices.proofs.PartLaws.{apart-within}
-use Rattle.lu_factoring.specs.Solve.{eachColumn}
+use Rattle.lu_factoring.specs.Kernels.{eachColumn}
 use Rattle.lu_systems.proofs.ByRows.{forwardTo, forward-rows-none, forward-rows-more, forward-rows-all}
 use Rattle.lu_systems.proofs.rows.forward_by_rows.Statement.{statement}
 use Rattle.lu_systems.proofs.rows.forward_by_rows.Tie as tie

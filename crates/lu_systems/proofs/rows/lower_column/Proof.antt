@@ -5,10 +5,11 @@ use native.Mathlib.Omega.{arith}
 use mathlib.Core.Path.{_≡_, refl, sym, ap, _∙_}
 use lib.ListN.{length, length-set}
 use lib.Ieee.{binary64, nan}
-use Rattle.arithmetic_matrices.specs.Matrix.{part, patch, put}
+use Rattle.arithmetic_matrices.specs.Matrix.{part, put}
+use Rattle.arithmetic_matrices.specs.Kernels.{patch}
 use Rattle.arithmetic_matrices.proofs.PatchLaws.{patch-none}
 use Rattle.arithmetic_matrices.proofs.PartLaws.{put-part}
-use Rattle.lu_factoring.specs.Solve.{lowered}
+use Rattle.lu_factoring.specs.Kernels.{lowered}
 use Rattle.lu_systems.proofs.RowSteps.{lower-column-turn}
 use borrow.Author.Needs.{needs}
 use Rattle.lu_systems.proofs.rows.lower_column.Statement.{statement}

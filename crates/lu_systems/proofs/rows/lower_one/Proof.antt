@@ -8,7 +8,7 @@ use lib.ListN.{length-set}
 use lib.Ieee.{binary64}
 use Rattle.arithmetic_matrices.proofs.MatrixLaws.{row-end, more-rows}
 use Rattle.arithmetic_matrices.proofs.ProductLaws.{put-first}
-use Rattle.lu_factoring.specs.Solve.{lowerEntry}
+use Rattle.lu_systems.specs.Kernels.{lowerEntry}
 use Rattle.lu_systems.proofs.ByRows.{lower-none, lower-turn, lower-done}
 use Rattle.lu_systems.proofs.rows.lower_one.Statement.{statement}
 use Rattle.lu_systems.proofs.rows.lower_one.Tie as tie

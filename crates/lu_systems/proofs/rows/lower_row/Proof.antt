@@ -6,7 +6,7 @@ use lib.ListN.{length}
 use lib.Ieee.{binary64}
 use Rattle.arithmetic_matrices.specs.Matrix.{tab, put}
 use Rattle.arithmetic_matrices.proofs.PartLaws.{put-none}
-use Rattle.lu_factoring.specs.Solve.{lowerEntry}
+use Rattle.lu_systems.specs.Kernels.{lowerEntry}
 use Rattle.lu_systems.proofs.ByRows.{lower-more}
 use Rattle.lu_systems.proofs.rows.lower_row.Statement.{statement}
 use Rattle.lu_systems.proofs.rows.lower_row.Tie as tie

@@ -5,7 +5,8 @@ use native.Mathlib.Omega.{arith}
 use mathlib.Core.Path.{_≡_, refl, _∙_}
 use lib.ListN.{length}
 use Rattle.arithmetic_matrices.specs.Matrix.{part, put}
-use Rattle.lu_factoring.specs.Solve.{permuted, eachColumn}
+use Rattle.lu_factoring.specs.Solve.{permuted}
+use Rattle.lu_factoring.specs.Kernels.{eachColumn}
 use Rattle.lu_factoring.proofs.RowLaws.{each-none}
 use Rattle.lu_systems.proofs.RowSteps.{permute-rows-turn}
 use borrow.Author.Needs.{needs}

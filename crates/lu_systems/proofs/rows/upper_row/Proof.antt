@@ -6,7 +6,7 @@ use lib.ListN.{length}
 use lib.Ieee.{binary64}
 use Rattle.arithmetic_matrices.specs.Matrix.{tab, put}
 use Rattle.arithmetic_matrices.proofs.PartLaws.{put-none}
-use Rattle.lu_factoring.specs.Solve.{upperEntry}
+use Rattle.lu_systems.specs.Kernels.{upperEntry}
 use Rattle.lu_systems.proofs.ByRows.{upper-more}
 use Rattle.lu_systems.proofs.rows.upper_row.Statement.{statement}
 use Rattle.lu_systems.proofs.rows.upper_row.Tie as tie

@@ -12,7 +12,7 @@ use Rattle.arithmetic_matrices.proofs.MatrixLaws.{square-le}
 use Rattle.arithmetic_matrices.proofs.ProductLaws.{length-identityM}
 use Rattle.arithmetic_matrices.proofs.Slots.{slots-apart, slot-other}
 use Rattle.lu_factoring.specs.Lu.{luOutcome}
-use Rattle.lu_factoring.specs.Solve.{divided}
+use Rattle.lu_factoring.specs.Kernels.{divided}
 use native.Mathlib.Omega.{arith}
 use borrow.Author.Needs.{needs}
 use Rattle.lu_systems.proofs.workspace.invert.Statement.{statement}

@@ -4,7 +4,7 @@ use mathlib.Core.Path.{_≡_}
 use borrow.Author.Count.{below-more}
 use borrow.Author.Tests.{not-false}
 use Rattle.sheet_encoding.specs.Bytes.{byteAt}
-use Rattle.sheet.specs.Tasks.{RootCode}
+use Rattle.sheet.specs.Kernels.{RootCode}
 use native.Mathlib.Omega.{arith}
 use borrow.Author.Needs.{needs}
 use Rattle.sheet.proofs.number.are_roots.Statement.{statement}

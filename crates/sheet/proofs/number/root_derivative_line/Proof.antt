@@ -4,7 +4,7 @@ use mathlib.Core.List.{List, [], _∷_}
 use denote.Ref.{now}
 use Prim.Native.Nat.{ℕ}
 use lib.Ieee.{Float, binary64}
-use Rattle.functions_exponential.specs.Calls.{frechetSqrtm}
+use Rattle.functions_definitions.specs.Calls.{frechetSqrtm}
 use Rattle.sheet_encoding.specs.Bytes.{numberAt}
 use Rattle.sheet.specs.Tasks.{both, directionAt}
 use Rattle.sheet.proofs.FewLaws.{few-reported}

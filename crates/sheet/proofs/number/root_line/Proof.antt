@@ -1,7 +1,7 @@
 -- `root_line` meets its contract. Assumes nothing.
 use denote.Ref.{now}
 use lib.Ieee.{binary64}
-use Rattle.functions_exponential.specs.Calls.{sqrtm}
+use Rattle.functions_definitions.specs.Calls.{sqrtm}
 use Rattle.sheet.proofs.FewLaws.{few-reported}
 use Rattle.sheet.proofs.TaskLaws.{carried-one, lined-as}
 use Rattle.sheet.proofs.NumberLaws.{few-root-number}

@@ -5,7 +5,7 @@ use denote.Ref.{now}
 use lib.ListN.{length}
 use lib.Ieee.{binary64}
 use Rattle.sheet.specs.Tasks.{taskLines}
-use Rattle.sheet_encoding.specs.Wrote.{Wrote}
+use Rattle.sheet_encoding.specs.Kernels.{Wrote}
 use Rattle.sheet_encoding.proofs.WroteLaws.{wrote-none, wrote-more}
 use Rattle.sheet.proofs.SheetLaws.{lines-none, lines-more}
 use native.Mathlib.Omega.{arith}

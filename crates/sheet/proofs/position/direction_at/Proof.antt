@@ -2,7 +2,7 @@
 use Prim.Native.Nat.{_*_}
 use mathlib.Core.Path.{refl}
 use native.Mathlib.Nat.{mul-le-mul}
-use Rattle.functions_exponential.proofs.ConditionLaws.{square-le8}
+use Rattle.arithmetic_matrices.proofs.MatrixLaws.{square-le8}
 use native.Mathlib.Omega.{arith}
 use Rattle.sheet.proofs.position.direction_at.Statement.{statement}
 use Rattle.sheet.proofs.position.direction_at.Tie as tie

@@ -1,7 +1,7 @@
 -- `run_with_room` meets its contract. Assumes nothing.
 use mathlib.Core.Path.{sym}
 use lib.Seq.{length-take-le}
-use Rattle.functions_exponential.proofs.ConditionLaws.{square-le8}
+use Rattle.arithmetic_matrices.proofs.MatrixLaws.{square-le8}
 use native.Mathlib.Omega.{arith}
 use borrow.Author.Needs.{needs}
 use Rattle.sheet.proofs.run.run_with_room.Statement.{statement}

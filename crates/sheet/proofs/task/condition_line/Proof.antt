@@ -4,7 +4,7 @@ use denote.Ref.{now}
 use lib.ListN.{length}
 use lib.Ieee.{binary64}
 use Prim.Native.Nat.{ℕ}
-use Rattle.functions_exponential.specs.Calls.{condExpm}
+use Rattle.functions_definitions.specs.Calls.{condExpm}
 use Rattle.sheet.specs.Tasks.{ratio}
 use Rattle.sheet.proofs.FewLaws.{few-condition, few-reported}
 use Rattle.sheet.proofs.TaskLaws.{carried-ratio, lined-as}

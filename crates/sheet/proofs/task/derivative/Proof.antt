@@ -2,7 +2,7 @@
 use denote.Ref.{now}
 use Prim.Native.Nat.{ℕ}
 use lib.Ieee.{binary64}
-use Rattle.functions_exponential.specs.Calls.{frechetExpm, frechetLogm, frechetSqrtm}
+use Rattle.functions_definitions.specs.Calls.{frechetExpm, frechetLogm, frechetSqrtm}
 use Rattle.sheet.proofs.TaskLaws.{chosen-two, derivative-6, derivative-7, derivative-8}
 use borrow.Author.Needs.{needs}
 use Rattle.sheet.proofs.task.derivative.Statement.{statement}

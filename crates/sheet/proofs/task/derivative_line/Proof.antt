@@ -4,7 +4,7 @@ use mathlib.Core.List.{List}
 use denote.Ref.{now}
 use lib.Ieee.{Float, binary64}
 use Prim.Native.Nat.{ℕ, _*_}
-use Rattle.functions_exponential.proofs.ConditionLaws.{square-le8}
+use Rattle.arithmetic_matrices.proofs.MatrixLaws.{square-le8}
 use Rattle.sheet_encoding.specs.Bytes.{numbersAt}
 use Rattle.sheet.specs.Tasks.{derivativeFor, both}
 use Rattle.sheet.proofs.FewLaws.{few-derivative, few-reported}

@@ -3,7 +3,7 @@ use mathlib.Core.Path.{ap, _∙_}
 use denote.Ref.{now}
 use lib.Ieee.{Float, binary64}
 use Prim.Native.Nat.{ℕ}
-use Rattle.functions_exponential.proofs.ConditionLaws.{square-le8}
+use Rattle.arithmetic_matrices.proofs.MatrixLaws.{square-le8}
 use Rattle.sheet.specs.Tasks.{valueFor, exponentFor}
 use Rattle.sheet.proofs.FewLaws.{few-value, few-reported}
 use Rattle.sheet.proofs.TaskLaws.{carried-one, lined-as}

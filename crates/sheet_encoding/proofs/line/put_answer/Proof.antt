@@ -6,7 +6,7 @@ use denote.Ref.{now}
 use lib.Ieee.{binary64}
 use Rattle.arithmetic_questions.specs.Answers.{reported}
 use Rattle.arithmetic_questions.specs.declared.answer.Outcome.{Outcome}
-use Rattle.sheet_encoding.specs.Text.{Few}
+use Rattle.sheet_encoding.specs.Kernels.{Few}
 use Rattle.sheet_encoding.proofs.LineLaws.{answer-done, answer-no}
 use borrow.Author.Needs.{needs}
 use Rattle.sheet_encoding.proofs.line.put_answer.Statement.{statement}

@@ -7,7 +7,7 @@ use borrow.Author.Needs.{needs}
 use denote.Ref.{now}
 use lib.Ieee.{binary64}
 use lib.Seq.{take-all}
-use Rattle.sheet_encoding.specs.Wrote.{Wrote}
+use Rattle.sheet_encoding.specs.Kernels.{Wrote}
 use Rattle.sheet_encoding.specs.Text.{numbersText}
 use Rattle.sheet_encoding.proofs.WroteLaws.{wrote-none, wrote-more}
 use Rattle.sheet_encoding.proofs.TextLaws.{numbersText-none, numbersText-more}

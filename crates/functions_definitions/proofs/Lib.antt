@@ -1,0 +1,5 @@
+pub mod HalvingLaws
+pub mod PadeLaws
+pub mod FirstOutput
+pub mod LateLaws
+pub mod IterateLaws

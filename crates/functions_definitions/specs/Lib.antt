@@ -1,0 +1,12 @@
+pub mod Calls
+pub mod Derivatives
+pub mod Exponential
+pub mod Finite
+pub mod Frechet
+pub mod Iterate
+pub mod Kronecker
+pub mod Logarithm
+pub mod Powers
+pub mod Roots
+pub mod Trigonometric
+pub mod Conditions

@@ -1,0 +1,69 @@
+-- What the parts of the logarithm and of its derivative leave in a workspace. The matrix stands in slot 0, and slots 1 to 3 are scratch. Only the contracts of kernels cite it. Definitions only.
+use Prim.Native.Nat.{ℕ, suc, _≤_}
+use mathlib.Core.Path.{_≡_}
+use mathlib.Core.List.{List, [], _∷_}
+use lib.Ieee.{Float, Format}
+use Rattle.arithmetic_floats.specs.Float.{powerOfTwo}
+use Rattle.arithmetic_matrices.specs.Product.{scaleM, minusIdentityM, differenceQuotientM}
+use Rattle.arithmetic_questions.specs.Result.{Result, refused, done, _>>=_}
+use Rattle.arithmetic_matrices.specs.Workspace.{slot, member, Only}
+use Rattle.functions_definitions.specs.Iterate.{Step, running, stopped, failed, after, ended}
+use Rattle.functions_definitions.specs.Logarithm.{Rooted, rootingStep, rooting, Series, seriesStep, series}
+use Rattle.functions_roots.specs.declared.pass.Pass.{Pass}
+use Rattle.functions_roots.specs.declared.pass.Pass.the-variants.{Running, Stopped, Failed}
+use Rattle.functions_logarithms.specs.declared.logarithm.Roots.{Roots}
+use Rattle.functions_logarithms.specs.declared.logarithm.Roots.the-variants.{Taken, Refused}
+use Rattle.functions_definitions.specs.Derivatives.{logStep}
+
+abbrev pub rootedAs : List Float → ℕ → Rooted
+rootedAs x k = record { work = x; roots = k }
+
+-- what a pass makes of the iteration, x being the matrix that it leaves and k the number of roots before it
+abbrev pub asRooting : Pass → List Float → ℕ → Step Rooted
+asRooting Running x k = running (rootedAs x (suc k))
+asRooting Stopped x k = stopped (rootedAs x k)
+asRooting Failed x k = failed
+
+-- one pass: a root, or none where the matrix is near I
+pub record RootingPass (f : Format) (n : ℕ) (r : Pass) (w w′ : List Float) : Type 0 where
+  pub step : (k : ℕ) → asRooting r (slot n w′ 0) k ≡ rootingStep f n (rootedAs (slot n w 0) k)
+  pub only : Only (member (0 ∷ 1 ∷ 2 ∷ 3 ∷ [])) w w′
+
+-- what the passes answer, x being the matrix that they leave
+abbrev pub asTaken : Roots → List Float → Result Rooted
+asTaken (Taken k) x = done 0 (rootedAs x k)
+asTaken Refused x = refused 13 0 0
+
+abbrev pub countOf : Roots → ℕ
+countOf (Taken k) = k
+countOf Refused = 0
+
+-- all passes
+pub record RootsTaken (f : Format) (n : ℕ) (r : Roots) (w w′ : List Float) : Type 0 where
+  pub taken : asTaken r (slot n w′ 0) ≡ ended (rooting f n (slot n w 0) 100)
+  pub few : countOf r ≤ 100
+  pub only : Only (member (0 ∷ 1 ∷ 2 ∷ 3 ∷ [])) w w′
+
+abbrev pub seriesIn : ℕ → List Float → Series
+seriesIn n w = record { power = slot n w 1; sum = slot n w 2 }
+
+-- the terms that are added to what stands in slots 1 and 2
+pub record TermsAdded (f : Format) (n : ℕ) (w w′ : List Float) : Type 0 where
+  pub terms : done 0 (seriesIn n w′) ≡ ended (after (seriesStep f n (slot n w 0)) (seriesIn n w) 59)
+  pub only : Only (member (1 ∷ 2 ∷ 3 ∷ [])) w w′
+
+-- all of it
+pub record SeriesSummed (f : Format) (n : ℕ) (w w′ : List Float) : Type 0 where
+  pub terms : done 0 (seriesIn n w′) ≡ ended (series f n (slot n w 0) 59)
+  pub only : Only (member (1 ∷ 2 ∷ 3 ∷ [])) w w′
+
+-- the logarithm of a matrix near I, which stands in slot 0, times 2 ^ k
+pub record LogarithmNear (f : Format) (n k : ℕ) (w w′ : List Float) : Type 0 where
+  pub result : done 0 (slot n w′ 0) ≡ (ended (series f n (minusIdentityM f n (slot n w 0)) 59) >>= λ s. done 0 (scaleM f n (powerOfTwo k) (s .sum)))
+  pub only : Only (member (0 ∷ 1 ∷ 2 ∷ 3 ∷ [])) w w′
+
+-- the difference quotient of the logarithms in slots 0 and 6 goes to slot 1, and the one in slot 6 to slot 0
+pub record QuotientPlaced (f : Format) (n : ℕ) (w w′ : List Float) : Type 0 where
+  pub value : slot n w′ 0 ≡ slot n w 6
+  pub derivative : slot n w′ 1 ≡ differenceQuotientM f n (logStep f) (slot n w 0) (slot n w 6)
+  pub only : Only (member (0 ∷ 1 ∷ [])) w w′
