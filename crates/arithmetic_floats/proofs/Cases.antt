@@ -11,9 +11,10 @@ use lib.Ieee.{Float, nan, inf, fin, Format, prec, low, up, down, odd, fits, isNa
 use lib.Arith.{le→nltb}
 use lib.Ieee.Bits.{ofBits-toBits, nanBits-above}
 use lib.Ieee.Exact.{HasValue, odd-sign}
-use lib.Ieee.Fits.{up-pos, and-i, eq→eqb}
+use lib.Ieee.Fits.{up-pos, and-i, and-l, eq→eqb}
 use Rattle.arithmetic_floats.specs.Float.{+zero}
 use Rattle.arithmetic_floats.specs.Root.{sqrtUnits, sqrtOf}
+use Rattle.arithmetic_floats.proofs.Order.{or-right}
 use Rattle.arithmetic_floats.proofs.Reading.{ofBits-low, ofBits-mid, ofBits-top, sqrtOf-of}
 
 pub above-no-nan : (x : Float) → T (lt +zero x) → T (not (isNan x))
@@ -96,23 +97,15 @@ unfolding sqrtOf eq
 sqrt-zero f nan h = absurd h
 sqrt-zero f (inf s) h = absurd h
 sqrt-zero f (fin s zero e) h = refl
-sqrt-zero f (fin s (suc m) e) h = absurd (lt-irrefl 0 (subst (λ (a : ℕ). 0 < a) (eqb→eq (suc m * up e * 1) (0 * 1 * down e) (first (eqb (suc m * up e * 1) (0 * 1 * down e)) (Bool·beq s false || eqb (suc m * up e * 1) 0) h) ∙ zero-mul (down e)) (some m e 1 (zero-lt-suc 0))))
-  where
-    first : (a b : Bool) → T (a && b) → T a
-    first true b t = tt
-    first false b t = t
+sqrt-zero f (fin s (suc m) e) h = absurd (lt-irrefl 0 (subst (λ (a : ℕ). 0 < a) (eqb→eq (suc m * up e * 1) (0 * 1 * down e) (and-l (eqb (suc m * up e * 1) (0 * 1 * down e)) (Bool·beq s false || eqb (suc m * up e * 1) 0) h) ∙ zero-mul (down e)) (some m e 1 (zero-lt-suc 0))))
 
 -- a zero of either sign equals +0
 pub zero-equals : (s : Bool) (e : ℤ) → T (eq (fin s 0 e) +zero)
 unfolding eq
 zero-equals s e = both s (0 * up e * 1) (0 * 1 * down e) (nothing e 1) (zero-mul (down e))
   where
-    second : (a b : Bool) → T b → T (a || b)
-    second true b t = tt
-    second false b t = t
-
     both : (s : Bool) (a b : ℕ) → a ≡ 0 → b ≡ 0 → T (eqb a b && (Bool·beq s false || eqb a 0))
-    both s a b x y = and-i (eqb a b) (Bool·beq s false || eqb a 0) (eq→eqb (x ∙ sym y)) (second (Bool·beq s false) (eqb a 0) (eq→eqb x))
+    both s a b x y = and-i (eqb a b) (Bool·beq s false || eqb a 0) (eq→eqb (x ∙ sym y)) (or-right (Bool·beq s false) (eqb a 0) (eq→eqb x))
 
 pub sqrt-below : (f : Format) (x : Float) → (T (lt +zero x) → ⊥) → (T (eq x +zero) → ⊥) → sqrtOf f x ≡ nan
 unfolding sqrtOf eq lt

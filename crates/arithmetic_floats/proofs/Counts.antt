@@ -1,21 +1,22 @@
 -- A finite value that the format holds, counted in the format's smallest values: a number of at most `prec` digits with zeros after it, below `overflow`. Assumes nothing.
 use mathlib.Core.Path.{_≡_, refl, sym, ap, _∙_, subst}
 use mathlib.Core.Logic.{_⊎_, inl, inr}
-use mathlib.Core.Bool.{Bool, true, false, _&&_}
-use Prim.Native.Nat.{ℕ, zero, suc, _+_, _-_, _*_, _/_, _%_, _^_, _≤_, _<_}
+use mathlib.Core.Bool.{Bool, true, false}
+use Prim.Native.Nat.{ℕ, zero, suc, _+_, _-_, _*_, _/_, _^_, _≤_, _<_}
 use native.Mathlib.Nat.{le-of-suc-le-suc, lt-of-lt-of-le, lt-of-not-le, lt-irrefl, zero-mul, mul-one, mul-assoc, mul-comm, mul-right-comm, mul-lt-mul-of-pos-right, lt-of-mul-lt-mul-right, mul-div-cancel}
 use native.Mathlib.Omega.{arith}
 use native.Mathlib.Decide.{decLe}
 use lib.IntN.{ℤ, pos, negsuc}
-use lib.Dec.{T, leb, ltb, eqb, ltb→lt, leb→le}
+use lib.Dec.{T}
 use lib.Pow.{pow-add, pow-pos, pow-mono, pow-lt, shl-lt}
 use lib.Ieee.{Float, nan, inf, fin, Format, prec, emax, low, up, down, fits}
 use lib.Ieee.Digits.{back}
 use lib.Ieee.Exact.{HasValue}
 use lib.Ieee.Scale.{overflow}
 use lib.Ieee.Positive.{positive}
-use lib.Ieee.Fits.{down-pos, and-l, and-r}
+use lib.Ieee.Fits.{down-pos}
 use Rattle.arithmetic_floats.specs.Root.{count}
+use Rattle.arithmetic_floats.proofs.Zero.{fits-parts}
 
 pub count-of : (f : Format) (x : Float) (s : Bool) (a : ℕ) → HasValue x s a (2 ^ low f) → count f x ≡ a
 count-of f nan s a h = absurd h
@@ -61,19 +62,10 @@ something f m e a b c =
     record { m = m; j = p .0; is = is; m-lt = a; n-lt = lt-of-mul-lt-mul-right (down e) lt }
 
 pub counted : (f : Format) (x : Float) → T (fits f x) → Counted f (count f x)
-unfolding fits
 counted f nan h = nothing f 0 refl
 counted f (inf s) h = nothing f 0 refl
 counted f (fin s zero e) h = nothing f (0 * up e * 2 ^ low f / down e) (ap (λ (x : ℕ). x * 2 ^ low f / down e) (zero-mul (up e)) ∙ ap (λ (x : ℕ). x / down e) (zero-mul (2 ^ low f)) ∙ native.Mathlib.Nat.zero-div (down e))
-counted f (fin s (suc m) e) h =
-    let A = eqb (suc m % 2) 1 in
-    let B = ltb (suc m) (2 ^ prec f) in
-    let C = leb (down e) (2 ^ low f) in
-    let D = ltb (suc m * up e) (2 ^ suc (emax f) * down e) in
-    something f (suc m) e
-    (ltb→lt (suc m) (2 ^ prec f) (and-r A B (and-l (A && B) C (and-l (A && B && C) D h))))
-    (leb→le (down e) (2 ^ low f) (and-r (A && B) C (and-l (A && B && C) D h)))
-    (ltb→lt (suc m * up e) (2 ^ suc (emax f) * down e) (and-r (A && B && C) D h))
+counted f (fin s (suc m) e) h = let p = fits-parts f s (suc m) e h in something f (suc m) e (p .few) (p .fine) (p .under)
 
 -- ---- a value of `prec` digits above 2 ^ k smallest values is a multiple of 2 ^ k of them
 
@@ -95,14 +87,9 @@ exact-at f m e b =
     ap (λ (x : ℕ). x / down e * down e) (p .1 m) ∙ ap (λ (x : ℕ). x * down e) (mul-div-cancel (m * 2 ^ p .0) (down-pos e)) ∙ sym (p .1 m)
 
 pub count-value : (f : Format) (x : Float) → T (fits f x) → T (positive x) → HasValue x false (count f x) (2 ^ low f)
-unfolding fits
 count-value f nan h p = absurd p
 count-value f (inf s) h p = absurd p
 count-value f (fin true m e) h p = absurd p
 count-value f (fin false zero e) h p = absurd p
 count-value f (fin false (suc m) e) h p =
-    let A = eqb (suc m % 2) 1 in
-    let B = ltb (suc m) (2 ^ prec f) in
-    let C = leb (down e) (2 ^ low f) in
-    let D = ltb (suc m * up e) (2 ^ suc (emax f) * down e) in
-    (refl, sym (exact-at f (suc m) e (leb→le (down e) (2 ^ low f) (and-r (A && B) C (and-l (A && B && C) D h)))))
+    (refl, sym (exact-at f (suc m) e (fits-parts f false (suc m) e h .fine)))

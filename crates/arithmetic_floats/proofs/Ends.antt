@@ -9,8 +9,8 @@ use lib.IntN.{pos, negℤ}
 use lib.Dec.{T, ltb, eqb, ltb→lt, lt→ltb, eqb→eq}
 use lib.Pow.{pow-pos}
 use lib.Ieee.{Float, nan, inf, fin, up, down, lt, eq, le, isNan, toSigned}
-use lib.Ieee.Fits.{down-pos, eq→eqb}
-use Rattle.arithmetic_floats.proofs.Order.{or-le}
+use lib.Ieee.Fits.{down-pos, eq→eqb, and-i}
+use Rattle.arithmetic_floats.proofs.Order.{or-le, le-or, or-left, or-right}
 
 -- 2 ^ 63 and -2 ^ 63
 abbrev pub big : Float
@@ -20,22 +20,6 @@ abbrev pub lowest : Float
 lowest = fin true 1 (pos 63)
 
 -- ---- a comparison that passed, one that failed
-
-or-left : (s t : Bool) → T s → T (s || t)
-or-left true t u = tt
-or-left false t u = absurd u
-
-or-right : (s t : Bool) → T t → T (s || (t && true))
-or-right true t u = tt
-or-right false true u = tt
-or-right false false u = u
-
-le-or : (a b : ℕ) → a ≤ b → T (ltb a b || (eqb a b && true))
-le-or a b h = go (eq-or-lt-of-le h)
-  where
-    go : (a ≡ b) ⊎ (a < b) → T (ltb a b || (eqb a b && true))
-    go (inl e) = or-right (ltb a b) (eqb a b) (eq→eqb e)
-    go (inr l) = or-left (ltb a b) (eqb a b && true) (lt→ltb a b l)
 
 not-le : (a b : ℕ) → (a ≤ b → ⊥) → b < a
 not-le a b h = lt-of-not-le h
@@ -96,5 +80,5 @@ inside-bottom (fin false m e) n h =
 inside-bottom (fin true m e) n h = go (eq-or-lt-of-le (not-lt (2 ^ 63 * down e) (m * up e * 1) (λ l. h (lt→ltb (2 ^ 63 * down e) (m * up e * 1) l))))
   where
     go : (m * up e * 1 ≡ 2 ^ 63 * down e) ⊎ (m * up e * 1 < 2 ^ 63 * down e) → T (ltb (m * up e * 1) (2 ^ 63 * down e) || (eqb (2 ^ 63 * down e) (m * up e * 1) && true))
-    go (inl x) = or-right (ltb (m * up e * 1) (2 ^ 63 * down e)) (eqb (2 ^ 63 * down e) (m * up e * 1)) (eq→eqb (sym x))
+    go (inl x) = or-right (ltb (m * up e * 1) (2 ^ 63 * down e)) (eqb (2 ^ 63 * down e) (m * up e * 1) && true) (and-i (eqb (2 ^ 63 * down e) (m * up e * 1)) true (eq→eqb (sym x)) tt)
     go (inr x) = or-left (ltb (m * up e * 1) (2 ^ 63 * down e)) (eqb (2 ^ 63 * down e) (m * up e * 1) && true) (lt→ltb (m * up e * 1) (2 ^ 63 * down e) x)

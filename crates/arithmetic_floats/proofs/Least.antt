@@ -1,20 +1,20 @@
 -- The least power of two that is not below a number: `halvings` gives it, and so do the fields of a bit pattern, over the format. Assumes nothing.
 use mathlib.Core.Path.{_≡_, refl, sym, ap, _∙_, subst}
-use mathlib.Core.Logic.{_⊎_, inl, inr}
-use mathlib.Core.Bool.{Bool, true, false, not, _&&_, _||_}
+use mathlib.Core.Bool.{false, not}
 use Prim.Native.Nat.{ℕ, zero, suc, _+_, _-_, _*_, _/_, _%_, _^_, _≤_, _<_}
-use native.Mathlib.Nat.{le-trans, le-of-eq, le-of-lt, le-of-suc-le-suc, lt-of-lt-of-le, lt-of-le-of-lt, lt-of-not-le, not-le-of-lt, le-antisymm, eq-or-lt-of-le, not-suc-le-zero, mul-one, one-mul, mul-comm, mul-right-comm, mul-le-mul-right, mul-lt-mul-of-pos-right, le-of-mul-le-mul-right, lt-of-mul-lt-mul-right, div-mul-le-self, lt-div-mul-add, div-eq-of-lt, mod-lt, zero-add}
+use native.Mathlib.Nat.{le-trans, le-of-eq, le-of-lt, le-of-suc-le-suc, lt-of-lt-of-le, lt-of-le-of-lt, lt-of-not-le, not-le-of-lt, le-antisymm, not-suc-le-zero, mul-one, one-mul, mul-comm, mul-right-comm, mul-le-mul-right, mul-lt-mul-of-pos-right, le-of-mul-le-mul-right, lt-of-mul-lt-mul-right, div-mul-le-self, lt-div-mul-add, div-eq-of-lt, mod-lt, zero-add}
 use native.Mathlib.Omega.{arith}
-use native.Mathlib.Decide.{decLe}
 use lib.IntN.{ℤ}
-use lib.Dec.{T, leb, ltb, eqb, ltb→lt, lt→ltb, eqb→eq}
+use lib.Dec.{T, lt→ltb}
 use lib.Pow.{pow-add, pow-pos, pow-mono, pow-lt, shl-lt}
 use lib.Ieee.{Float, nan, inf, fin, Format, prec, emax, low, up, down, size, hid, ones, fits, toBits, lt, eq, le}
 use lib.Ieee.Digits.{size-lt, size-reaches}
-use lib.Ieee.Fits.{two, reach, down-pos, eq→eqb, and-r}
+use lib.Ieee.Fits.{two, reach, down-pos}
 use lib.Ieee.Positive.{num, den, den-pos}
 use lib.Ieee.Scale.{finite}
 use Rattle.arithmetic_floats.specs.Float.{halvings, magnitude, Least, +zero, one}
+use Rattle.arithmetic_floats.proofs.Order.{or-le, le-or}
+use Rattle.arithmetic_floats.proofs.Zero.{fits-parts}
 use Rattle.arithmetic_floats.proofs.Patterns.{twice-hid}
 use Rattle.arithmetic_floats.proofs.Middle.{pow-lt-back}
 use Rattle.arithmetic_floats.proofs.Cases as cases
@@ -62,39 +62,11 @@ least-scale n d a l s D L e h = (
 
 pub at-most-one : (m : ℕ) (e : ℤ) → T (le (fin false m e) one) → m * up e ≤ down e
 unfolding le lt eq
-at-most-one m e h = go (ltb (m * up e * 1) (1 * down e)) (eqb (m * up e * 1) (1 * down e)) (ltb→lt (m * up e * 1) (1 * down e)) (eqb→eq (m * up e * 1) (1 * down e)) h
-  where
-    go : (a b : Bool) → (T a → m * up e * 1 < 1 * down e) → (T b → m * up e * 1 ≡ 1 * down e) → T (a || (b && true)) → m * up e ≤ down e
-    go true b x y h = omega (arith, x tt)
-    go false true x y h = omega (arith, y tt)
-    go false false x y h = absurd h
+at-most-one m e h = omega (arith, or-le (m * up e * 1) (1 * down e) h)
 
 pub above-one : (m : ℕ) (e : ℤ) → (T (le (fin false m e) one) → ⊥) → down e < m * up e
 unfolding le lt eq
-above-one m e h = go (decLe (m * up e) (down e))
-  where
-    left : (a b : Bool) → T a → T (a || (b && true))
-    left true b t = tt
-    left false b t = absurd t
-
-    right : (a b : Bool) → T b → T (a || (b && true))
-    right true b t = tt
-    right false true t = tt
-    right false false t = t
-
-    less : m * up e < down e → m * up e * 1 < 1 * down e
-    less x = omega arith
-
-    same : m * up e ≡ down e → m * up e * 1 ≡ 1 * down e
-    same x = omega arith
-
-    no-le : (m * up e ≡ down e) ⊎ (m * up e < down e) → ⊥
-    no-le (inl x) = h (right (ltb (m * up e * 1) (1 * down e)) (eqb (m * up e * 1) (1 * down e)) (eq→eqb (same x)))
-    no-le (inr x) = h (left (ltb (m * up e * 1) (1 * down e)) (eqb (m * up e * 1) (1 * down e)) (lt→ltb (m * up e * 1) (1 * down e) (less x)))
-
-    go : Dec (m * up e ≤ down e) → down e < m * up e
-    go (yes l) = absurd (no-le (eq-or-lt-of-le l))
-    go (no g) = lt-of-not-le g
+above-one m e h = lt-of-not-le (λ (l : m * up e ≤ down e). h (le-or (m * up e * 1) (1 * down e) (omega arith)))
 
 -- ---- from the fields of the bits of an x above 1
 
@@ -235,16 +207,6 @@ module _ (f : Format) (x : Float) (s : Plain x) (held : T (fits f x)) where
 least-le : (n d s t : ℕ) → Least n d s → n ≤ 2 ^ t * d → s ≤ t
 least-le n d s t a h = le-of-suc-le-suc (lt-of-not-le (λ (g : suc t ≤ s). not-le-of-lt (a .1 t g) h))
 
-finite-range : (f : Format) (s : Bool) (m : ℕ) (e : ℤ) → T (fits f (fin s m e)) → m * up e ≤ 2 ^ suc (emax f) * down e
-unfolding fits
-finite-range f s zero e h = le-trans (le-of-eq (native.Mathlib.Nat.zero-mul (up e))) (omega arith)
-finite-range f s (suc m) e h =
-    let A = eqb (suc m % 2) 1 in
-    let B = ltb (suc m) (2 ^ prec f) in
-    let C = leb (down e) (2 ^ low f) in
-    let D = ltb (suc m * up e) (2 ^ suc (emax f) * down e) in
-    le-of-lt (ltb→lt (suc m * up e) (2 ^ suc (emax f) * down e) (and-r (A && B && C) D h))
-
 pub halvings-le : (f : Format) (x : Float) → T (fits f x) → halvings x ≤ suc (emax f)
 halvings-le f x h = least-le (num x) (den x) (halvings x) (suc (emax f)) (halvings-least x) (range x h)
   where
@@ -254,7 +216,7 @@ halvings-le f x h = least-le (num x) (den x) (halvings x) (suc (emax f)) (halvin
     range : (x : Float) → T (fits f x) → num x ≤ 2 ^ suc (emax f) * den x
     range nan h = nothing
     range (inf s) h = nothing
-    range (fin s m e) h = finite-range f s m e h
+    range (fin s m e) h = le-of-lt (fits-parts f s m e h .under)
 
 -- a sign does not count
 pub halvings-magnitude : (x : Float) → halvings (magnitude x) ≡ halvings x

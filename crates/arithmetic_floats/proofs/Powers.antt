@@ -2,20 +2,21 @@
 use mathlib.Core.Path.{_≡_, refl, sym, ap, _∙_, subst}
 use mathlib.Core.Bool.{Bool, true, false, not, cond, _&&_}
 use Prim.Native.Nat.{ℕ, zero, suc, _+_, _-_, _*_, _/_, _%_, _^_, _≤_, _<_}
-use native.Mathlib.Nat.{le-refl, le-of-eq, lt-of-lt-of-le, lt-of-le-of-lt, one-mul, zero-mul, zero-add, mul-right-comm, mul-lt-mul-of-pos-right, lt-of-mul-lt-mul-right, mul-div-cancel, div-one, suc-mul}
+use native.Mathlib.Nat.{le-refl, le-of-eq, le-of-lt, lt-of-lt-of-le, lt-of-le-of-lt, one-mul, zero-mul, zero-add, mul-right-comm, mul-lt-mul-of-pos-right, lt-of-mul-lt-mul-right, mul-div-cancel, div-one, suc-mul}
 use native.Mathlib.Omega.{arith}
 use lib.IntN.{ℤ, pos, negsuc}
 use lib.Dec.{T, leb, ltb, eqb, nleb→lt, le→leb, lt→ltb}
 use lib.Arith.{lt→nleb}
 use lib.Pow.{pow-add, pow-pos, pow-mono, pow-lt}
-use lib.Ieee.{Float, fin, isNan, Format, prec, emax, low, up, down, minus, size, hid, fits, toBits, ofBits}
+use lib.Ieee.{Float, fin, isNan, nanBits, Format, binary32, binary64, prec, emax, low, up, down, minus, size, hid, ones, fits, toBits, ofBits}
 use lib.Ieee.Bits.{is-true, is-false, ofBits-toBits}
 use lib.Ieee.Digits.{minus-val}
 use lib.Ieee.Exact.{HasValue}
-use lib.Ieee.Fits.{two, and-i, down-pos}
+use lib.Ieee.Fits.{two, reach, and-i, down-pos}
 use Rattle.arithmetic_floats.specs.Float.{powerOfTwo, inversePowerOfTwo}
 use Rattle.arithmetic_floats.proofs.Rounding.{size-is}
 use Rattle.arithmetic_floats.proofs.Patterns.{toBits-of}
+use Rattle.arithmetic_floats.proofs.Cases.{low-no-nan}
 
 down-minus : (a l : ℕ) → down (minus a l) ≤ 2 ^ l
 down-minus a l = go (leb l a) (nleb→lt l a)
@@ -101,6 +102,69 @@ inverse-is l (suc s) h =
   where
     rest : (l s : ℕ) → suc s ≤ l → l - suc (l - suc s) ≡ suc s - 1
     rest l s h = omega arith
+
+-- ---- by their bits, and none of these is a NaN's
+
+-- ones f * hid f are the bits of an infinity
+below-top : (f : Format) (k : ℕ) → k ≤ 2 * emax f → k * hid f < ones f * hid f
+below-top f k h = mul-lt-mul-of-pos-right (lt-of-le-of-lt h (le-of-eq (top-field f))) (pow-pos (prec f - 1))
+  where
+    top-field : (f : Format) → suc (2 * emax f) ≡ ones f
+    top-field binary32 = refl
+    top-field binary64 = refl
+
+-- 2 ^ s: nothing but the exponent's field
+pub power-bits : (f : Format) (s : ℕ) → s ≤ emax f → ofBits f ((s + emax f) * hid f) ≡ powerOfTwo s
+power-bits f s h =
+    ap (λ (n : ℕ). ofBits f (n * hid f)) (field (emax f) (prec f) (two f) (reach f))
+    ∙ pow-bits f (s + low f) (omega arith) (some (emax f) (prec f) (two f) (reach f))
+    ∙ power-is (low f) s
+  where
+    field : (e p : ℕ) → 2 ≤ p → p ≤ suc e → s + e ≡ s + (e + p - 2) + 2 - p
+    field e p a b = omega arith
+
+    some : (e p : ℕ) → 2 ≤ p → p ≤ suc e → p ≤ suc (s + (e + p - 2))
+    some e p a b = omega arith
+
+pub power-no-nan : (f : Format) (s : ℕ) → s ≤ emax f → T (not (nanBits f ((s + emax f) * hid f)))
+power-no-nan f s h = low-no-nan f ((s + emax f) * hid f) (below-top f (s + emax f) (omega arith))
+
+-- 2 ^ -s: the exponent's field, and from emax on one digit
+pub inverse-bits : (f : Format) (s : ℕ) → s < emax f → ofBits f ((emax f - s) * hid f) ≡ inversePowerOfTwo s
+inverse-bits f s h =
+    ap (λ (n : ℕ). ofBits f (n * hid f)) (field (emax f) (prec f) h (two f) (reach f))
+    ∙ pow-bits f (low f - s) (omega arith) (some (emax f) (prec f) h (two f) (reach f))
+    ∙ inverse-is (low f) s (small (emax f) (prec f) h (two f))
+  where
+    field : (e p : ℕ) → s < e → 2 ≤ p → p ≤ suc e → e - s ≡ e + p - 2 - s + 2 - p
+    field e p a b c = omega arith
+
+    some : (e p : ℕ) → s < e → 2 ≤ p → p ≤ suc e → p ≤ suc (e + p - 2 - s)
+    some e p a b c = omega arith
+
+    small : (e p : ℕ) → s < e → 2 ≤ p → s ≤ e + p - 2
+    small e p a b = omega arith
+
+pub inverse-no-nan : (f : Format) (s : ℕ) → T (not (nanBits f ((emax f - s) * hid f)))
+inverse-no-nan f s = low-no-nan f ((emax f - s) * hid f) (below-top f (emax f - s) (omega arith))
+
+pub inverse-bits-low : (f : Format) (s : ℕ) → emax f ≤ s → s ≤ low f → ofBits f (2 ^ (low f - s)) ≡ inversePowerOfTwo s
+inverse-bits-low f s h k =
+    pow-bits-low f (low f - s) (omega arith) (few (emax f) (prec f) h (two f))
+    ∙ inverse-is (low f) s k
+  where
+    few : (e p : ℕ) → e ≤ s → 2 ≤ p → e + p - 2 - s < p
+    few e p a b = omega arith
+
+pub inverse-low-no-nan : (f : Format) (s : ℕ) → emax f ≤ s → T (not (nanBits f (2 ^ (low f - s))))
+inverse-low-no-nan f s h =
+    low-no-nan f (2 ^ (low f - s)) (lt-of-lt-of-le (pow-lt (few (emax f) (prec f) h (two f))) (le-of-lt (lt-of-le-of-lt (le-of-eq (sym (one-mul (hid f)))) (below-top f 1 (one-le (emax f) (prec f) (two f) (reach f))))))
+  where
+    few : (e p : ℕ) → e ≤ s → 2 ≤ p → e + p - 2 - s < p - 1
+    few e p a b = omega arith
+
+    one-le : (e p : ℕ) → 2 ≤ p → p ≤ suc e → 1 ≤ 2 * e
+    one-le e p a b = omega arith
 
 -- the format holds them
 number : (f : Format) (e : ℤ) → T (fits f (fin false 1 e)) → T (fits f (fin false 1 e) && not (isNan (fin false 1 e)))

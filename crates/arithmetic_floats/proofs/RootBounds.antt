@@ -1,7 +1,7 @@
 -- The root of a number above the square of y is y at least, and below no t up to y, over the format. Assumes nothing.
 use mathlib.Core.Path.{_≡_, refl, sym, ap, _∙_}
 use mathlib.Core.Logic.{_⊎_, inl, inr}
-use mathlib.Core.Bool.{Bool, true, false, _||_}
+use mathlib.Core.Bool.{true, false}
 use Prim.Native.Nat.{ℕ, _+_, _*_, _^_, _≤_, _<_}
 use native.Mathlib.Nat.{le-trans, le-of-eq, mul-assoc, mul-right-comm, mul-mul-mul-comm, mul-le-mul, mul-le-mul-right, le-of-mul-le-mul-right, mul-pos}
 use native.Mathlib.Omega.{arith}
@@ -13,7 +13,7 @@ use lib.Ieee.Order.{le-of-values}
 use lib.Ieee.Positive.{num, den, den-pos, positive, positive-of-value, own-value, value-pos, above, above-of-le, value→cross, le→cross, values-of-le, le-trans-positive}
 use borrow.Author.Tests.{le-ltb}
 use Rattle.arithmetic_floats.specs.Root.{count, sqrtOf, NearestRoot}
-use Rattle.arithmetic_floats.proofs.Order.{split}
+use Rattle.arithmetic_floats.proofs.Order.{split, or-left}
 use Rattle.arithmetic_floats.proofs.Squares.{sq-twice}
 use Rattle.arithmetic_floats.proofs.Counts.{count-value}
 use Rattle.arithmetic_floats.proofs.Closest.{sqrt-nearest}
@@ -39,11 +39,7 @@ root-reaches f x y hx px hy h = go (split (count f (sqrtOf f x)) (count f y))
 
 lt-le : (x y : Float) → T (lt x y) → T (le x y)
 unfolding le
-lt-le x y h = go (lt x y) (eq x y) h
-  where
-    go : (s t : Bool) → T s → T (s || t)
-    go true t u = tt
-    go false t u = absurd u
+lt-le x y h = or-left (lt x y) (eq x y) h
 
 -- y / L is a / d, and the square of that is n / L at most
 squares : (y L a d n : ℕ) → 0 < d → a * L ≡ y * d → a * a * L ≤ n * (d * d) → y * y ≤ n * L

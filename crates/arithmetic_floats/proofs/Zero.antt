@@ -76,17 +76,17 @@ shift-of f (negsuc k) h =
     let g : suc k ≤ low f = low-exp (low f) k h in
     (low f - suc k, one-mul (2 ^ low f) ∙ ap (λ (x : ℕ). 2 ^ x) (sym (sub-back (low f) k g)) ∙ pow-add 2 (low f - suc k) (suc k))
 
--- the parts of `fits` at a number that is not 0
+-- the parts of `fits` at a number
 pub record Number (f : Format) (m : ℕ) (e : ℤ) : Type 0 where
   pub few : m < 2 ^ prec f
   pub fine : down e ≤ 2 ^ low f
   pub under : m * up e < 2 ^ suc (emax f) * down e
 
-number : (f : Format) (s : Bool) (m : ℕ) (e : ℤ) → T (fits f (fin s m e)) → Number f m e
+pub fits-parts : (f : Format) (s : Bool) (m : ℕ) (e : ℤ) → T (fits f (fin s m e)) → Number f m e
 unfolding fits
-number f s zero e t =
+fits-parts f s zero e t =
     subst (λ (g : ℤ). Number f 0 g) (sym (zero-exp f s e t)) (record { few = pow-pos (prec f); fine = pow-pos (low f); under = lt-of-lt-of-le (pow-pos (suc (emax f))) (le-of-eq (sym (mul-one (2 ^ suc (emax f))))) })
-number f s (suc m) e t =
+fits-parts f s (suc m) e t =
     let a : Bool = eqb (suc m % 2) 1 in
     let b : Bool = ltb (suc m) (2 ^ prec f) in
     let c : Bool = leb (down e) (2 ^ low f) in
@@ -100,7 +100,7 @@ number f s (suc m) e t =
 -- a value that fits is a whole number of the format's smallest values
 unit-count : (f : Format) (s : Bool) (m : ℕ) (e : ℤ) → Fits f (fin s m e) → (u : ℕ) × (m * up e * 2 ^ low f ≡ u * down e)
 unit-count f s m e t =
-    let j = shift-of f e (number f s m e t .fine) in
+    let j = shift-of f e (fits-parts f s m e t .fine) in
     (m * 2 ^ (j .0), mul-assoc m (up e) (2 ^ low f) ∙ ap (λ (x : ℕ). m * x) (j .1) ∙ sym (mul-assoc m (2 ^ (j .0)) (down e)))
 
 -- ---- a value that fits is known by its sign and its fraction
@@ -120,7 +120,7 @@ value-unique f x y s a c C p q v w =
 -- ---- rounding what the format holds
 pub round-fit : (f : Format) (s : Bool) (m : ℕ) (e : ℤ) (a c : ℕ) → 0 < c → Fits f (fin s m e) → m * up e * c ≡ a * down e → round f s a c ≡ fin s m e
 round-fit f s m e a c C t h =
-    let n = number f s m e t in
+    let n = fits-parts f s m e t in
     let j = shift-of f e (n .fine) in
     let u = m * 2 ^ (j .0) in
     let uv : m * up e * 2 ^ low f ≡ u * down e = mul-assoc m (up e) (2 ^ low f) ∙ ap (λ (x : ℕ). m * x) (j .1) ∙ sym (mul-assoc m (2 ^ (j .0)) (down e)) in

@@ -1,4 +1,6 @@
 -- Floats one by one: constants, magnitude, halvings, powers of two, rounding to a whole number. Definitions only.
+-- There is one NaN here: of a NaN neither the sign nor the payload is decided. Where a contract names a NaN it says that a NaN stands in that place, and no more.
+-- Letters: f is a format; a float is its sign s, its significand m and its exponent e; k counts halvings or is a power's exponent.
 use Prim.Native.Nat.{ℕ, zero, suc, _+_, _-_, _*_, _/_, _^_, _≤_, _<_}
 use mathlib.Core.Bool.{Bool, false, cond}
 use lib.IntN.{ℤ, pos, negsuc}
@@ -50,21 +52,21 @@ larger a b = cond (lt a b) b a
 abbrev pub ceiling : Float → ℕ
 ceiling x = (num x + (den x - 1)) / den x
 
--- The least s with x at most 2 ^ s, for a finite x that is not negative: how many digits the number before x's ceiling has. `Least` says it by comparison.
+-- The least k with x at most 2 ^ k, for a finite x that is not negative: how many digits the number before x's ceiling has. `Least` says it by comparison.
 unfoldable pub halvings : Float → ℕ
 unfolding size
 halvings x = size (ceiling x - 1)
 
--- s is the least number with n / d at most 2 ^ s
+-- k is the least number with n / d at most 2 ^ k
 abbrev pub Least : ℕ → ℕ → ℕ → Type 0
-Least n d s = (n ≤ 2 ^ s * d) × ((j : ℕ) → j < s → 2 ^ j * d < n)
+Least n d k = (n ≤ 2 ^ k * d) × ((j : ℕ) → j < k → 2 ^ j * d < n)
 
--- 2 ^ s and 2 ^ -s
+-- 2 ^ k and 2 ^ -k
 abbrev pub powerOfTwo : ℕ → Float
-powerOfTwo s = fin false 1 (pos s)
+powerOfTwo k = fin false 1 (pos k)
 
 abbrev pub inversePowerOfTwo : ℕ → Float
-inversePowerOfTwo s = fin false 1 (minus 0 s)
+inversePowerOfTwo k = fin false 1 (minus 0 k)
 
 -- ---- rounding to a whole number
 

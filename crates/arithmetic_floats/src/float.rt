@@ -6,7 +6,8 @@ ghost use lib.Dec.{T};
 ghost use lib.IntN.{pos};
 ghost use lib.Ieee.{binary64, ofInt, ofBits, toBits, toSigned};
 ghost use lib.Ieee.Scale.{finite};
-ghost use Rattle.arithmetic_floats.specs.Float.{halvings, powerOfTwo, inversePowerOfTwo, halfUp, roundAway, nearInteger, integerOf, magnitude as magnitudeOf, larger as largerOf};
+ghost use lib.Ieee.Positive.{num, den};
+ghost use Rattle.arithmetic_floats.specs.Float.{halvings, Least, powerOfTwo, inversePowerOfTwo, halfUp, roundAway, nearInteger, integerOf, magnitude as magnitudeOf, larger as largerOf};
 
 // The magnitude of x. That of -0 is +0, and that of a NaN is a NaN.
 pub fn magnitude(x: f64) -> f64
@@ -29,10 +30,11 @@ pub fn is_finite(x: f64) -> bool
     -1.0 / 0.0 < x && x < 1.0 / 0.0
 }
 
-// The least s with norm at most 2^s: the exponent, or one more where the significand is above 1.
+// The least s with the magnitude of norm at most 2^s: the exponent, or one more where the significand is above 1.
 pub fn halvings_of(norm: f64) -> u64
     requires { ⌜ T (finite norm) ⌝ }
     ensures { λ r. ⌜ r ≡ halvings norm ⌝ }
+    ensures { λ r. ⌜ Least (num norm) (den norm) r ⌝ }
 {
     let size = magnitude(norm);
     if size <= 1.0 {

@@ -1,8 +1,10 @@
 // The square root, worked out in whole numbers.
 ghost use mathlib.Core.Path.{_≡_};
 ghost use Prim.Native.Nat.{_+_, _*_, _^_, _<_, _≤_};
+ghost use lib.Dec.{T};
 ghost use lib.Ieee.{binary64, ofBits};
-ghost use Rattle.arithmetic_floats.specs.Root.{Scaled, sqrtUnits, sqrtOf};
+ghost use lib.Ieee.Positive.{positive};
+ghost use Rattle.arithmetic_floats.specs.Root.{Scaled, sqrtUnits, sqrtOf, NearestRoot};
 
 // The first `steps` binary digits of the root of `radicand`, which is read as a fraction of 2^64:
 // the whole part of the root of radicand * 4^steps / 2^64. One digit a turn, from the radicand's two
@@ -45,9 +47,11 @@ fn root_bits(significand: u64, exponent: u64) -> u64
     unit * 0x10_0000_0000_0000 + (root + 1) / 2
 }
 
-// The square root: the nearest f64 to the exact root. A zero keeps its sign, and a number below zero gives NaN.
+// The square root. Of a finite number above zero it is the nearest f64 to the exact root, by compared squares.
+// A zero keeps its sign, and a number below zero gives NaN.
 pub fn sqrt(x: f64) -> f64
     ensures { λ r. ⌜ r ≡ sqrtOf binary64 x ⌝ }
+    ensures { λ r. ⌜ (T (positive x) → NearestRoot binary64 x r) ⌝ }
 {
     if x > 0.0 {
         let bits = f64::to_bits(x);

@@ -10,16 +10,16 @@ use native.Mathlib.Decide.{le-ind}
 use native.Mathlib.Omega.{arith}
 use lib.Dec.{eqb, eqb→eq, not-T}
 use lib.Ieee.{Float, Format, nan, mul}
-use lib.Ieee.Fits.{add-fits, mul-fits}
+use lib.Ieee.Fits.{mul-fits}
 use lib.Ieee.Bits.{is-false}
 use Rattle.arithmetic_floats.specs.Float.{one, +zero, Finite}
 use Rattle.arithmetic_matrices.specs.Matrix.{at, item}
-use Rattle.arithmetic_matrices.specs.Product.{dot, mulM, scaleM, diagonalEntry, diagonalM, identityM, squared}
+use Rattle.arithmetic_matrices.specs.Product.{dot, mulM, timesM, diagonalEntry, diagonalM, identityM, squared}
 use Rattle.arithmetic_matrices.specs.Finite.{FiniteProduct}
 use Rattle.arithmetic_floats.proofs.Order.{split}
-use Rattle.arithmetic_floats.proofs.Zero.{Zero, Plus, Fits, zero-fits, plus-of-positive, add-zero-right, add-plus, mul-zero-left, mul-zero-right}
+use Rattle.arithmetic_floats.proofs.Zero.{Zero, Plus, Fits, plus-of-positive, add-zero-right, add-plus, mul-zero-left, mul-zero-right}
 use Rattle.arithmetic_matrices.proofs.MatrixLaws.{at-grid, getD-tab, index-lt}
-use Rattle.arithmetic_matrices.proofs.ProductLaws.{dot-cong}
+use Rattle.arithmetic_matrices.proofs.ProductLaws.{sum-fits, dot-cong}
 
 pub record Corner (n N : ℕ) (a b : List Float) : Type 0 where
   pub same : (i j : ℕ) → i < n → j < n → at N b i j ≡ at n a i j
@@ -28,8 +28,7 @@ pub record Corner (n N : ℕ) (a b : List Float) : Type 0 where
 -- ---- sums of products
 pub dot-fits : (f : Format) (g h : ℕ → Float) (k : ℕ) → Fits f (dot f k g h)
 unfolding dot
-dot-fits f g h zero = zero-fits f false
-dot-fits f g h (suc k) = add-fits f (dot f k g h) (mul f (g k) (h k))
+dot-fits f g h k = sum-fits f k _
 
 pub dot-plus : (f : Format) (g h : ℕ → Float) (k : ℕ) → Plus (dot f k g h)
 unfolding dot
@@ -94,11 +93,11 @@ module _ (f : Format) (n N : ℕ) (n≤N : n ≤ N) where
   }
 
   -- ---- scaling and squaring
-  at-scale : (m : ℕ) (by : Float) (a : List Float) (i j : ℕ) → i < m → j < m → at m (scaleM f m by a) i j ≡ mul f (at m a i j) by
-  unfolding scaleM at
+  at-scale : (m : ℕ) (by : Float) (a : List Float) (i j : ℕ) → i < m → j < m → at m (timesM f m by a) i j ≡ mul f (at m a i j) by
+  unfolding timesM at
   at-scale m by a i j I J = getD-tab (m * m) (λ k. mul f (item a k) by) (i * m + j) nan (index-lt I J)
 
-  pub scale-corner : (by : Float) (a A : List Float) → Corner n N a A → ((i j : ℕ) → i < N → j < N → Finite (mul f (at N A i j) by)) → Corner n N (scaleM f n by a) (scaleM f N by A)
+  pub scale-corner : (by : Float) (a A : List Float) → Corner n N a A → ((i j : ℕ) → i < N → j < N → Finite (mul f (at N A i j) by)) → Corner n N (timesM f n by a) (timesM f N by A)
   scale-corner by a A p fin = record {
     same = λ i j I J.
         at-scale N by A i j (lt-of-lt-of-le I n≤N) (lt-of-lt-of-le J n≤N)

@@ -61,9 +61,6 @@ row-end i r c hi = omega (arith, suc-mul i c, mul-le-mul-right c hi)
 pub square-le : (n : ℕ) → n ≤ 16 → n * n ≤ 256
 square-le n h = mul-le-mul h h
 
-pub square-le8 : (n : ℕ) → n ≤ 8 → n * n ≤ 64
-square-le8 n h = mul-le-mul {n₁ = n} {m₁ = n} {n₂ = 8} {m₂ = 8} h h
-
 -- (r + 1) rows of c
 pub more-rows : (r c : ℕ) → (r + 1) * c ≡ r * c + c
 more-rows r c = rw add-one (suc-mul r c)

@@ -6,14 +6,16 @@ use native.Mathlib.Omega.{arith}
 use mathlib.Core.Path.{_≡_, refl, sym, _∙_, ap}
 use mathlib.Core.List.{List, _∷_, _++_}
 use mathlib.Core.Bool.{Bool, true, false, cond}
-use lib.Dec.{eqb}
+use lib.Dec.{T, eqb}
 use lib.ListN.{length, getD, set}
-use lib.Ieee.{Float, nan, inf, fin, Format, unlike, up, down, round, add, sub, mul, div, ofBits}
+use lib.Ieee.{Float, nan, inf, fin, Format, unlike, up, down, round, add, sub, mul, div, fits, ofBits}
+use lib.Ieee.Fits.{add-fits}
 use borrow.Author.Tests.{eq-eqb, ne-eqb}
 use Rattle.arithmetic_floats.specs.Float.{one, half}
 use Rattle.arithmetic_floats.proofs.Constants.{+zero-bits}
+use Rattle.arithmetic_floats.proofs.Zero.{zero-fits}
 use Rattle.arithmetic_matrices.specs.Matrix.{tab, grid, at, part, put, Apart, item}
-use Rattle.arithmetic_matrices.specs.Product.{sum, dot, mulM, scaleM, timesM, accumulateM, addMultipleM, deductM, zeroM, addM, subM, meanM, differenceQuotientM, diagonalM, identityM, minusIdentityEntry, minusIdentityM, transposeM, squared}
+use Rattle.arithmetic_matrices.specs.Product.{sum, dot, mulM, timesM, addMultipleM, deductM, zeroM, addM, subM, meanM, differenceQuotientM, diagonalM, identityM, minusIdentityEntry, minusIdentityM, transposeM, squared}
 use Rattle.arithmetic_matrices.specs.Kernels.{rowDot}
 use Rattle.arithmetic_matrices.proofs.MatrixLaws.{tab-cong, length-tab, length-grid, grid-cong, row-end, index-lt, getD-tab}
 use Rattle.arithmetic_matrices.proofs.PartLaws.{at-part, length-put, put-append, put-store, getD-put-after, getD-put-apart, put-grid-more, apart-within, tab-part, tab-parts, set-put}
@@ -33,6 +35,12 @@ pub sum-cong : (f : Format) (k : ℕ) (g h : ℕ → Float) → ((i : ℕ) → i
 unfolding sum
 sum-cong f zero g h e = refl
 sum-cong f (suc k) g h e = λ i. add f (sum-cong f k g h (λ j b. e j (omega arith)) i) (e k (omega arith) i)
+
+-- the format holds a sum, whatever it adds
+pub sum-fits : (f : Format) (k : ℕ) (g : ℕ → Float) → T (fits f (sum f k g))
+unfolding sum
+sum-fits f zero g = zero-fits f false
+sum-fits f (suc k) g = add-fits f (sum f k g) (g k)
 
 -- ---- sums of products
 
@@ -128,17 +136,32 @@ length-mulM f n a b = length-grid n n _
 
 -- ---- multiples, sums and means of matrices that lie in one list
 
-pub scaleM-part : (f : Format) (n : ℕ) (by : Float) (w : List Float) (x : ℕ) → scaleM f n by (part w x (n * n)) ≡ tab (n * n) (λ k. mul f (getD w (x + k) nan) by)
-unfolding scaleM
-scaleM-part f n by w x = tab-part w x (n * n) (λ v. mul f v by)
+unlike-comm : (s t : Bool) → unlike s t ≡ unlike t s
+unlike-comm false false = refl
+unlike-comm false true = refl
+unlike-comm true false = refl
+unlike-comm true true = refl
 
-pub timesM-part : (f : Format) (n : ℕ) (by : Float) (w : List Float) (x : ℕ) → timesM f n by (part w x (n * n)) ≡ tab (n * n) (λ k. mul f by (item w (x + k)))
+-- a product does not depend on the order of its factors: a NaN is one value
+pub product-comm : (f : Format) (x y : Float) → mul f x y ≡ mul f y x
+unfolding mul
+product-comm f nan nan = refl
+product-comm f nan (inf t) = refl
+product-comm f nan (fin t n d) = refl
+product-comm f (inf s) nan = refl
+product-comm f (inf s) (inf t) = ap inf (unlike-comm s t)
+product-comm f (inf s) (fin t n d) = ap (λ (b : Bool). cond (eqb n 0) nan (inf b)) (unlike-comm s t)
+product-comm f (fin s m e) nan = refl
+product-comm f (fin s m e) (inf t) = ap (λ (b : Bool). cond (eqb m 0) nan (inf b)) (unlike-comm s t)
+product-comm f (fin s m e) (fin t n d) = λ i. round f (unlike-comm s t i) (mul-comm (m * up e) (n * up d) i) (mul-comm (down e) (down d) i)
+
+pub timesM-part : (f : Format) (n : ℕ) (by : Float) (w : List Float) (x : ℕ) → timesM f n by (part w x (n * n)) ≡ tab (n * n) (λ k. mul f (getD w (x + k) nan) by)
 unfolding timesM
-timesM-part f n by w x = tab-part w x (n * n) (mul f by)
+timesM-part f n by w x = tab-part w x (n * n) (λ v. mul f v by)
 
-pub accumulateM-parts : (f : Format) (n : ℕ) (by : Float) (w : List Float) (x y : ℕ) → accumulateM f n by (part w x (n * n)) (part w y (n * n)) ≡ tab (n * n) (λ k. add f (item w (y + k)) (mul f by (item w (x + k))))
-unfolding accumulateM
-accumulateM-parts f n by w x y = tab-parts w y x (n * n) (λ u v. add f u (mul f by v))
+pub addMultipleM-parts : (f : Format) (n : ℕ) (by : Float) (w : List Float) (x y : ℕ) → addMultipleM f n by (part w x (n * n)) (part w y (n * n)) ≡ tab (n * n) (λ k. add f (item w (y + k)) (mul f (item w (x + k)) by))
+unfolding addMultipleM
+addMultipleM-parts f n by w x y = tab-parts w y x (n * n) (λ u v. add f u (mul f v by))
 
 pub deductM-parts : (f : Format) (n : ℕ) (by : Float) (w : List Float) (x y : ℕ) → deductM f n by (part w x (n * n)) (part w y (n * n)) ≡ tab (n * n) (λ k. sub f (item w (y + k)) (mul f (item w (x + k)) by))
 unfolding deductM
@@ -159,29 +182,6 @@ meanM-parts f n w x y = tab-parts w x y (n * n) (λ u v. mul f (add f u v) half)
 pub differenceQuotientM-parts : (f : Format) (n : ℕ) (h : Float) (w : List Float) (x y : ℕ) → differenceQuotientM f n h (part w x (n * n)) (part w y (n * n)) ≡ tab (n * n) (λ k. div f (sub f (item w (x + k)) (item w (y + k))) h)
 unfolding differenceQuotientM
 differenceQuotientM-parts f n h w x y = tab-parts w x y (n * n) (λ u v. div f (sub f u v) h)
-
-unlike-comm : (s t : Bool) → unlike s t ≡ unlike t s
-unlike-comm false false = refl
-unlike-comm false true = refl
-unlike-comm true false = refl
-unlike-comm true true = refl
-
--- a product does not depend on the order of its factors: a NaN is one value
-product-comm : (f : Format) (x y : Float) → mul f x y ≡ mul f y x
-unfolding mul
-product-comm f nan nan = refl
-product-comm f nan (inf t) = refl
-product-comm f nan (fin t n d) = refl
-product-comm f (inf s) nan = refl
-product-comm f (inf s) (inf t) = ap inf (unlike-comm s t)
-product-comm f (inf s) (fin t n d) = ap (λ (b : Bool). cond (eqb n 0) nan (inf b)) (unlike-comm s t)
-product-comm f (fin s m e) nan = refl
-product-comm f (fin s m e) (inf t) = ap (λ (b : Bool). cond (eqb m 0) nan (inf b)) (unlike-comm s t)
-product-comm f (fin s m e) (fin t n d) = λ i. round f (unlike-comm s t i) (mul-comm (m * up e) (n * up d) i) (mul-comm (down e) (down d) i)
-
-pub accumulateM-comm : (f : Format) (n : ℕ) (by : Float) (p c : List Float) → accumulateM f n by p c ≡ addMultipleM f n by p c
-unfolding accumulateM addMultipleM
-accumulateM-comm f n by p c = tab-cong (n * n) _ _ (λ k h. ap (add f (item c k)) (product-comm f by (item p k)))
 
 -- ---- the identity taken from a matrix
 
@@ -233,10 +233,6 @@ transposeM-row n w x y i hi ha =
 
 -- ---- lengths
 
-pub length-scaleM : (f : Format) (n : ℕ) (by : Float) (a : List Float) → length (scaleM f n by a) ≡ n * n
-unfolding scaleM
-length-scaleM f n by a = length-tab (n * n) _
-
 pub length-timesM : (f : Format) (n : ℕ) (by : Float) (a : List Float) → length (timesM f n by a) ≡ n * n
 unfolding timesM
 length-timesM f n by a = length-tab (n * n) _
@@ -282,9 +278,9 @@ pub squared-more : (f : Format) (n s : ℕ) (a : List Float) → squared f n (s 
 unfolding squared
 squared-more f n s a = rw add-one refl
 
-pub length-accumulateM : (f : Format) (n : ℕ) (by : Float) (p c : List Float) → length (accumulateM f n by p c) ≡ n * n
-unfolding accumulateM
-length-accumulateM f n by p c = length-tab (n * n) _
+pub length-addMultipleM : (f : Format) (n : ℕ) (by : Float) (p c : List Float) → length (addMultipleM f n by p c) ≡ n * n
+unfolding addMultipleM
+length-addMultipleM f n by p c = length-tab (n * n) _
 
 pub length-zeroM : (n : ℕ) → length (zeroM n) ≡ n * n
 unfolding zeroM

@@ -11,10 +11,10 @@ use lib.ListN.{length}
 use borrow.Author.Tests.{leb-true, eqb-true, ne-eqb}
 use lib.Ieee.{Float, Format}
 use Rattle.arithmetic_matrices.specs.Matrix.{tab, part, Apart}
-use Rattle.arithmetic_matrices.specs.Product.{mulM, scaleM, timesM, accumulateM, deductM, zeroM, addM, meanM, differenceQuotientM, diagonalM, identityM, minusIdentityM, transposeM}
+use Rattle.arithmetic_matrices.specs.Product.{mulM, timesM, addMultipleM, deductM, zeroM, addM, meanM, differenceQuotientM, diagonalM, identityM, minusIdentityM, transposeM}
 use Rattle.arithmetic_matrices.specs.Workspace.{slot, store, Room, member, Only}
 use Rattle.arithmetic_matrices.proofs.MatrixLaws.{square-le}
-use Rattle.arithmetic_matrices.proofs.ProductLaws.{length-mulM, length-scaleM, length-timesM, length-accumulateM, length-deductM, length-zeroM, length-addM, length-meanM, length-differenceQuotientM, length-diagonalM, length-identityM, length-minusIdentityM, length-transposeM}
+use Rattle.arithmetic_matrices.proofs.ProductLaws.{length-mulM, length-timesM, length-addMultipleM, length-deductM, length-zeroM, length-addM, length-meanM, length-differenceQuotientM, length-diagonalM, length-identityM, length-minusIdentityM, length-transposeM}
 use Rattle.arithmetic_matrices.proofs.Slots.{length-slot, length-store, slot-store, slot-other, picks, only-refl, only-trans, only-more, only-run, slot-only}
 
 -- a matrix of an order, within so many slots from its first on
@@ -142,10 +142,6 @@ module _ {S : ℕ → Bool} {w₀ w w′ : List Float} {σ : ℕ → Held} (n : 
   step-mult f a b c H e p q =
       step-one c (mulM f n (slot n w a) (slot n w b)) (mulM f n (σ a .entries) (σ b .entries)) H e (λ i. mulM f n (held-at a n H p i) (held-at b n H q i)) (length-mulM f n (σ a .entries) (σ b .entries))
 
-  pub step-scale : (f : Format) (by : Float) (a : ℕ) → State S w₀ w σ → w′ ≡ store w a (scaleM f n by (slot n w a)) → σ a .order ≡ n → leb (a + 1) 32 ≡ true → picks S a 1 ≡ true
-      → State S w₀ w′ (upd σ a (held n (scaleM f n by (σ a .entries))))
-  step-scale f by a H e p = step-one a (scaleM f n by (slot n w a)) (scaleM f n by (σ a .entries)) H e (λ i. scaleM f n by (held-at a n H p i)) (length-scaleM f n by (σ a .entries))
-
   pub step-copy : (a c : ℕ) → State S w₀ w σ → w′ ≡ store w c (slot n w a) → σ a .order ≡ n → leb (c + 1) 32 ≡ true → picks S c 1 ≡ true → State S w₀ w′ (upd σ c (held n (σ a .entries)))
   step-copy a c H e p = step-one c (slot n w a) (σ a .entries) H e (held-at a n H p) (ap length (sym (held-at a n H p)) ∙ length-slot n w a)
 
@@ -155,15 +151,16 @@ module _ {S : ℕ → Bool} {w₀ w w′ : List Float} {σ : ℕ → Held} (n : 
   pub step-identity : (c : ℕ) → State S w₀ w σ → w′ ≡ store w c (identityM n) → leb (c + 1) 32 ≡ true → picks S c 1 ≡ true → State S w₀ w′ (upd σ c (held n (identityM n)))
   step-identity c H e = step-one c (identityM n) (identityM n) H e refl (length-identityM n)
 
-  pub step-accumulate : (f : Format) (by : Float) (c p : ℕ) → State S w₀ w σ → w′ ≡ store w c (accumulateM f n by (slot n w p) (slot n w c)) → σ p .order ≡ n → σ c .order ≡ n
-      → leb (c + 1) 32 ≡ true → picks S c 1 ≡ true → State S w₀ w′ (upd σ c (held n (accumulateM f n by (σ p .entries) (σ c .entries))))
+  pub step-accumulate : (f : Format) (by : Float) (c p : ℕ) → State S w₀ w σ → w′ ≡ store w c (addMultipleM f n by (slot n w p) (slot n w c)) → σ p .order ≡ n → σ c .order ≡ n
+      → leb (c + 1) 32 ≡ true → picks S c 1 ≡ true → State S w₀ w′ (upd σ c (held n (addMultipleM f n by (σ p .entries) (σ c .entries))))
   step-accumulate f by c p H e u v =
-      step-one c (accumulateM f n by (slot n w p) (slot n w c)) (accumulateM f n by (σ p .entries) (σ c .entries)) H e (λ i. accumulateM f n by (held-at p n H u i) (held-at c n H v i))
-      (length-accumulateM f n by (σ p .entries) (σ c .entries))
+      step-one c (addMultipleM f n by (slot n w p) (slot n w c)) (addMultipleM f n by (σ p .entries) (σ c .entries)) H e (λ i. addMultipleM f n by (held-at p n H u i) (held-at c n H v i))
+      (length-addMultipleM f n by (σ p .entries) (σ c .entries))
 
   pub step-zero : (c : ℕ) → State S w₀ w σ → w′ ≡ store w c (zeroM n) → leb (c + 1) 32 ≡ true → picks S c 1 ≡ true → State S w₀ w′ (upd σ c (held n (zeroM n)))
   step-zero c H e = step-one c (zeroM n) (zeroM n) H e refl (length-zeroM n)
 
+  -- `times`, and `scale` with c the same slot
   pub step-times : (f : Format) (by : Float) (a c : ℕ) → State S w₀ w σ → w′ ≡ store w c (timesM f n by (slot n w a)) → σ a .order ≡ n
       → leb (c + 1) 32 ≡ true → picks S c 1 ≡ true → State S w₀ w′ (upd σ c (held n (timesM f n by (σ a .entries))))
   step-times f by a c H e u = step-one c (timesM f n by (slot n w a)) (timesM f n by (σ a .entries)) H e (λ i. timesM f n by (held-at a n H u i)) (length-timesM f n by (σ a .entries))

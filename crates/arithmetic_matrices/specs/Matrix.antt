@@ -6,16 +6,16 @@ use lib.ListN.{getD}
 use lib.Seq.{sets}
 use lib.Ieee.{Float, nan}
 
--- f 0, f 1, .., f (k - 1)
+-- g 0, g 1, .., g (k - 1)
 unfoldable pub tab : {A : Type 0} → ℕ → (ℕ → A) → List A
-tab zero f = []
-tab (suc k) f = f zero ∷ tab k (λ i. f (suc i))
+tab zero g = []
+tab (suc k) g = g zero ∷ tab k (λ i. g (suc i))
 
--- the r by c matrix whose entry (i, j) is f i j: its rows one after the other
+-- the r by c matrix whose entry (i, j) is g i j: its rows one after the other
 unfoldable pub grid : ℕ → ℕ → (ℕ → ℕ → Float) → List Float
 unfolding tab
-grid zero c f = []
-grid (suc r) c f = tab c (f zero) ++ grid r c (λ i. f (suc i))
+grid zero c g = []
+grid (suc r) c g = tab c (g zero) ++ grid r c (λ i. g (suc i))
 
 -- entry i of a list, and entry (i, j) of a matrix with c columns
 abbrev pub item : List Float → ℕ → Float
@@ -24,10 +24,10 @@ item x i = getD x i nan
 unfoldable pub at : ℕ → List Float → ℕ → ℕ → Float
 at c a i j = item a (i * c + j)
 
--- column j of a matrix of n rows and m columns
+-- column j of a matrix of r rows and c columns
 unfoldable pub column : ℕ → ℕ → List Float → ℕ → List Float
 unfolding tab at
-column n m b j = tab n (λ i. at m b i j)
+column r c a j = tab r (λ i. at c a i j)
 
 -- ---- parts of a list
 
@@ -43,5 +43,3 @@ put w o xs = sets w o xs
 -- the k places from x on and the m places from y on have none in common
 abbrev pub Apart : ℕ → ℕ → ℕ → ℕ → Type 0
 Apart x k y m = (x + k ≤ y) ⊎ (y + m ≤ x)
-
--- ---- changes in place

@@ -12,36 +12,26 @@ unfoldable pub sum : Format → ℕ → (ℕ → Float) → Float
 sum f zero g = +zero
 sum f (suc k) g = add f (sum f k g) (g k)
 
--- a 0 * b 0 + .. + a (k - 1) * b (k - 1)
+-- g 0 * h 0 + .. + g (k - 1) * h (k - 1)
 unfoldable pub dot : Format → ℕ → (ℕ → Float) → (ℕ → Float) → Float
 unfolding sum
-dot f k a b = sum f k (λ i. mul f (a i) (b i))
+dot f k g h = sum f k (λ i. mul f (g i) (h i))
 
 -- the product of two matrices
 unfoldable pub mulM : Format → ℕ → List Float → List Float → List Float
 unfolding grid at dot
 mulM f n a b = grid n n (λ i j. dot f n (at n a i) (λ k. at n b k j))
 
--- each entry times by
-unfoldable pub scaleM : Format → ℕ → Float → List Float → List Float
-unfolding tab
-scaleM f n by a = tab (n * n) (λ k. mul f (item a k) by)
-
--- by times each entry
+-- The multiple of a by `by`, and c plus and less the multiple of p by `by`. The source has the factor on either side of the product, which does not
+-- depend on it (`product-comm`): here it stands on the right.
 unfoldable pub timesM : Format → ℕ → Float → List Float → List Float
 unfolding tab
-timesM f n by a = tab (n * n) (λ k. mul f by (item a k))
-
--- c plus the multiple of p by `by`: the factor on the left of the product, and on its right
-unfoldable pub accumulateM : Format → ℕ → Float → List Float → List Float → List Float
-unfolding tab
-accumulateM f n by p c = tab (n * n) (λ k. add f (item c k) (mul f by (item p k)))
+timesM f n by a = tab (n * n) (λ k. mul f (item a k) by)
 
 unfoldable pub addMultipleM : Format → ℕ → Float → List Float → List Float → List Float
 unfolding tab
 addMultipleM f n by p c = tab (n * n) (λ k. add f (item c k) (mul f (item p k) by))
 
--- c less the multiple of p by `by`, the factor on the right of the product
 unfoldable pub deductM : Format → ℕ → Float → List Float → List Float → List Float
 unfolding tab
 deductM f n by p c = tab (n * n) (λ k. sub f (item c k) (mul f (item p k) by))

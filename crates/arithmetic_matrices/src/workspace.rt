@@ -6,7 +6,7 @@ ghost use lib.Dec.{eqb};
 ghost use lib.ListN.{length};
 ghost use lib.Ieee.{binary64};
 ghost use Rattle.arithmetic_matrices.specs.Matrix.{tab, item, part, put, Apart};
-ghost use Rattle.arithmetic_matrices.specs.Product.{mulM, scaleM, timesM, accumulateM, deductM, zeroM, addM, meanM, differenceQuotientM, diagonalEntry, diagonalM, identityM, minusIdentityM, transposeM};
+ghost use Rattle.arithmetic_matrices.specs.Product.{mulM, timesM, addMultipleM, deductM, zeroM, addM, meanM, differenceQuotientM, diagonalEntry, diagonalM, identityM, minusIdentityM, transposeM};
 ghost use Rattle.arithmetic_matrices.specs.Workspace.{slot, store, Room, cleared};
 ghost use Rattle.arithmetic_matrices.specs.Kernels.{Squared};
 use crate::product::mat_mult;
@@ -95,7 +95,7 @@ pub fn mult(w: &mut [f64], a: usize, b: usize, c: usize, n: usize)
 pub fn scale(w: &mut [f64], a: usize, by: f64, n: usize)
     requires { ⌜ Room n (now w) ⌝ }
     requires { ⌜ a < 32 ⌝ }
-    ensures { λ _. ⌜ now (w .exit) ≡ store (now (w .entry)) a (scaleM binary64 n by (slot n (now (w .entry)) a)) ⌝ }
+    ensures { λ _. ⌜ now (w .exit) ≡ store (now (w .entry)) a (timesM binary64 n by (slot n (now (w .entry)) a)) ⌝ }
 {
     let x = 256 * a;
     let m = n * n;
@@ -159,7 +159,7 @@ pub fn mean(w: &mut [f64], a: usize, b: usize, c: usize, n: usize)
 pub fn accumulate(w: &mut [f64], c: usize, p: usize, by: f64, n: usize)
     requires { ⌜ Room n (now w) ⌝ }
     requires { ⌜ (c < 32) × (p < 32) × (eqb p c ≡ false) ⌝ }
-    ensures { λ _. ⌜ now (w .exit) ≡ store (now (w .entry)) c (accumulateM binary64 n by (slot n (now (w .entry)) p) (slot n (now (w .entry)) c)) ⌝ }
+    ensures { λ _. ⌜ now (w .exit) ≡ store (now (w .entry)) c (addMultipleM binary64 n by (slot n (now (w .entry)) p) (slot n (now (w .entry)) c)) ⌝ }
 {
     let x = 256 * p;
     let y = 256 * c;

@@ -12,13 +12,13 @@ use lib.Ieee.Scale.{finite}
 use Rattle.arithmetic_floats.specs.Float.{+zero}
 use Rattle.arithmetic_matrices.specs.Matrix.{item}
 use Rattle.arithmetic_matrices.specs.Workspace.{cleared}
-use Rattle.arithmetic_questions.specs.Result.{Result, refused, done, _>>=_, ask, only, firstNo, outcome, exit, workspace}
-use Rattle.arithmetic_questions.specs.Questions.{Limits, order8, order64, solve64, products64, Pivots, without, lent, given, pivotsFrom, positive, answer, Call, nonnegative, directed, Profile, anywhere, inDomain, pivotsNamed, numberQuestions, asked, Domain, companionFits, atMost, limited, exactly, hasCompanion, hasPivots, outputLength, lengths, roomy, firstNonfinite, placed, allFinite, shapeQuestions}
+use Rattle.arithmetic_questions.specs.Result.{Result, Found, refused, done, _>>=_, ask, onlyWhere, firstNo, outcome, exit, workspace}
+use Rattle.arithmetic_questions.specs.Questions.{Call, Emptiness, atLeastOneRow, anyRows, Shape, squareOnly, anyShape, Companion, withoutCompanion, direction, rightHandSide, secondMatrix, secondSquareMatrix, Limits, order8, order64, orderAndRightColumns64, sizesAndProducts64, Pivots, withoutPivots, lentPivots, givenPivots, Workspace, withWorkspace, withoutWorkspace, Entries, finiteEntries, anyEntries, Exponent, withExponent, withoutExponent, Domain, anywhere, positive, nonnegative, Orders, ordersFromTwo, everyOrder, Profile, rowsQuestion, squareQuestion, companionFits, companionQuestion, atMost, limitQuestions, exactly, hasCompanion, hasPivots, outputLength, lengthQuestions, workspaceQuestion, firstNonfinite, placed, allFinite, entriesQuestion, directionQuestion, exponentQuestion, pivotsFrom, pivotsQuestion, domainQuestion, orderQuestion, shapeQuestions, numberQuestions, asked, answer}
 use Rattle.arithmetic_questions.specs.Answers.{numbered, found}
 use Rattle.arithmetic_questions.specs.declared.answer.Refusal.{Refusal}
 use Rattle.arithmetic_questions.specs.declared.answer.Question.{Question}
 use Rattle.arithmetic_questions.specs.declared.answer.Question.the-variants.{Passed, No}
-use Rattle.arithmetic_questions.proofs.QuestionLaws.{Found, as-refused, Each, each-append, questions}
+use Rattle.arithmetic_questions.proofs.QuestionLaws.{as-refused, Each, each-append, questions}
 
 -- every refusal of 1 to 11 has a number up to 11
 abbrev pub Early : Found → Type 0
@@ -29,9 +29,9 @@ early-ask : (b : Bool) (k x y : ℕ) → k ≤ 11 → Early (ask b k x y)
 early-ask true k x y h = tt
 early-ask false k x y h = h
 
-early-only : (b : Bool) (p : Found) → Early p → Early (only b p)
-early-only true p h = h
-early-only false p h = tt
+early-where : (b : Bool) (p : Found) → Early p → Early (onlyWhere b p)
+early-where true p h = h
+early-where false p h = tt
 
 early-map : (f : ℕ → Found) → ((x : ℕ) → Early (f x)) → (l : List ℕ) → Each Early (map f l)
 early-map f h [] = tt
@@ -49,94 +49,113 @@ early-most limit x = early-ask (leb x limit) 4 x limit (lit≤ tt)
 early-exactly : (wanted x : ℕ) → Early (exactly wanted x)
 early-exactly wanted x = early-ask (eqb x wanted) 5 x wanted (lit≤ tt)
 
-early-limited : (l : Limits) (c : Call) → Each Early (limited l c)
-unfolding limited
-early-limited order8 c = (early-most 8 (c .rows), tt)
-early-limited order64 c = (early-most 64 (c .rows), tt)
-early-limited solve64 c = (early-most 64 (c .rows), (early-most 64 (c .companionColumns), tt))
-early-limited products64 c =
-    early-map (atMost 64) (early-most 64)
-    (c .rows ∷ c .columns ∷ c .companionRows ∷ c .companionColumns ∷ c .rows * c .companionRows ∷ c .columns * c .companionColumns ∷ [])
-
 early-placed : (number columns : ℕ) (o : Option ℕ) → number ≤ 11 → Early (placed number columns o)
 unfolding placed
 early-placed number columns none h = tt
 early-placed number columns (some q) h = h
 
+early-finite : (number columns : ℕ) (a : List Float) → number ≤ 11 → Early (allFinite number columns a)
+unfolding allFinite
+early-finite number columns a h = early-placed number columns (firstNonfinite 0 a) h
+
 early-cond : (b : Bool) (q : Found) (k x y : ℕ) → Early q → k ≤ 11 → Early (cond b q (refused k x y))
 early-cond true q k x y h l = h
 early-cond false q k x y h l = l
 
-early-pivots : (n k : ℕ) (l : List ℕ) → Early (pivotsFrom n k l)
+early-pivot : (n k : ℕ) (l : List ℕ) → Early (pivotsFrom n k l)
 unfolding pivotsFrom
-early-pivots n k [] = tt
-early-pivots n k (p ∷ l) = early-cond (leb k p && ltb p n) (pivotsFrom n (suc k) l) 9 k p (early-pivots n (suc k) l) (lit≤ tt)
+early-pivot n k [] = tt
+early-pivot n k (p ∷ l) = early-cond (leb k p && ltb p n) (pivotsFrom n (suc k) l) 9 k p (early-pivot n (suc k) l) (lit≤ tt)
 
-early-named : (p : Pivots) (c : Call) → Early (pivotsNamed p c)
-unfolding pivotsNamed
-early-named without c = tt
-early-named lent c = tt
-early-named given c = early-pivots (c .rows) 0 (c .pivots)
+-- ---- each question by its cases
 
-early-domain : (d : Domain) (c : Call) → Early (inDomain d c)
-early-domain anywhere c = tt
-early-domain positive c = early-only (eqb (c .rows) 1) _ (early-ask (lt +zero (item (c .matrix) 0)) 10 0 0 (lit≤ tt))
-early-domain nonnegative c = early-only (eqb (c .rows) 1) _ (early-ask (le +zero (item (c .matrix) 0)) 10 0 0 (lit≤ tt))
+module _ (c : Call) where
+  early-rows : (e : Emptiness) → Early (rowsQuestion e c)
+  early-rows atLeastOneRow = early-ask (ltb 0 (c .rows)) 1 0 0 (lit≤ tt)
+  early-rows anyRows = tt
 
--- 1 to 4
-abbrev orderQuestions : Profile → Call → List Found
-orderQuestions p c =
-    only (p .nonempty) (ask (ltb 0 (c .rows)) 1 0 0)
-    ∷ only (p .square) (ask (eqb (c .rows) (c .columns)) 2 (c .rows) (c .columns))
-    ∷ ask (companionFits (p .beside) c) 3 (c .companionRows) (c .companionColumns)
-    ∷ limited (p .limits) c
+  early-square : (s : Shape) → Early (squareQuestion s c)
+  early-square squareOnly = early-ask (eqb (c .rows) (c .columns)) 2 (c .rows) (c .columns) (lit≤ tt)
+  early-square anyShape = tt
+
+  early-companion : (k : Companion) → Early (companionQuestion k c)
+  early-companion k = early-ask (companionFits k c) 3 (c .companionRows) (c .companionColumns) (lit≤ tt)
+
+  early-limits : (l : Limits) → Each Early (limitQuestions l c)
+  early-limits order8 = (early-most 8 (c .rows), tt)
+  early-limits order64 = (early-most 64 (c .rows), tt)
+  early-limits orderAndRightColumns64 = (early-most 64 (c .rows), (early-most 64 (c .companionColumns), tt))
+  early-limits sizesAndProducts64 =
+      early-map (atMost 64) (early-most 64)
+      (c .rows ∷ c .columns ∷ c .companionRows ∷ c .companionColumns ∷ c .rows * c .companionRows ∷ c .columns * c .companionColumns ∷ [])
+
+  early-room : (w : Workspace) → Early (workspaceQuestion w c)
+  early-room withWorkspace = early-ask (leb 8192 (c .room)) 5 (c .room) 8192 (lit≤ tt)
+  early-room withoutWorkspace = tt
+
+  early-entries : (e : Entries) → Early (entriesQuestion e c)
+  early-entries finiteEntries = early-finite 6 (c .columns) (c .matrix) (lit≤ tt)
+  early-entries anyEntries = tt
+
+  early-direction : (k : Companion) → Early (directionQuestion k c)
+  early-direction withoutCompanion = tt
+  early-direction direction = early-finite 7 (c .companionColumns) (c .companion) (lit≤ tt)
+  early-direction rightHandSide = tt
+  early-direction secondMatrix = tt
+  early-direction secondSquareMatrix = tt
+
+  early-exponent : (e : Exponent) → Early (exponentQuestion e c)
+  early-exponent withExponent = early-ask (finite (c .exponent)) 8 0 0 (lit≤ tt)
+  early-exponent withoutExponent = tt
+
+  early-pivots : (p : Pivots) → Early (pivotsQuestion p c)
+  early-pivots withoutPivots = tt
+  early-pivots lentPivots = tt
+  early-pivots givenPivots = early-pivot (c .rows) 0 (c .pivots)
+
+  early-domain : (d : Domain) → Early (domainQuestion d c)
+  early-domain anywhere = tt
+  early-domain positive = early-where (eqb (c .rows) 1) _ (early-ask (lt +zero (item (c .matrix) 0)) 10 0 0 (lit≤ tt))
+  early-domain nonnegative = early-where (eqb (c .rows) 1) _ (early-ask (le +zero (item (c .matrix) 0)) 10 0 0 (lit≤ tt))
+
+  early-orders : (o : Orders) → Early (orderQuestion o c)
+  early-orders ordersFromTwo = early-ask (leb 2 (c .rows)) 11 0 0 (lit≤ tt)
+  early-orders everyOrder = tt
 
 module _ (p : Profile) (c : Call) where
-  early-lengths : Each Early (lengths p c)
-  unfolding lengths
+  early-lengths : Each Early (lengthQuestions p c)
   early-lengths = (
     early-exactly (c .rows * c .columns) (length (c .matrix)),
     (
-      early-only (hasCompanion (p .beside)) _ (early-exactly (c .companionRows * c .companionColumns) (length (c .companion))),
+      early-where (hasCompanion (p .beside)) _ (early-exactly (c .companionRows * c .companionColumns) (length (c .companion))),
       (
-        early-only (hasPivots (p .pivoted)) _ (early-exactly (c .rows) (length (c .pivots))),
+        early-where (hasPivots (p .pivoted)) _ (early-exactly (c .rows) (length (c .pivots))),
         early-map (exactly (outputLength (p .beside) c)) (early-exactly (outputLength (p .beside) c)) (c .outputs),
       ),
     ),
   )
 
-  early-order : Each Early (orderQuestions p c)
-  early-order = (
-    early-only (p .nonempty) _ (early-ask (ltb 0 (c .rows)) 1 0 0 (lit≤ tt)),
-    (
-      early-only (p .square) _ (early-ask (eqb (c .rows) (c .columns)) 2 (c .rows) (c .columns) (lit≤ tt)),
-      (early-ask (companionFits (p .beside) c) 3 (c .companionRows) (c .companionColumns) (lit≤ tt), early-limited (p .limits) c),
-    ),
-  )
+  -- 1 to 4
+  abbrev sizeQuestions : List Found
+  sizeQuestions = rowsQuestion (p .emptiness) c ∷ squareQuestion (p .shape) c ∷ companionQuestion (p .beside) c ∷ limitQuestions (p .limits) c
+
+  early-sizes : Each Early sizeQuestions
+  early-sizes = (early-rows c (p .emptiness), (early-square c (p .shape), (early-companion c (p .beside), early-limits c (p .limits))))
 
   early-shape : Each Early (shapeQuestions p c)
   unfolding shapeQuestions
   early-shape =
-      each-append Early (orderQuestions p c ++ lengths p c) (only (p .worked) (roomy (c .room)) ∷ [])
-      (each-append Early (orderQuestions p c) (lengths p c) early-order early-lengths)
-      (early-only (p .worked) _ (early-ask (leb 8192 (c .room)) 5 (c .room) 8192 (lit≤ tt)), tt)
+      each-append Early (sizeQuestions ++ lengthQuestions p c) (workspaceQuestion (p .workspace) c ∷ [])
+      (each-append Early sizeQuestions (lengthQuestions p c) early-sizes early-lengths)
+      (early-room c (p .workspace), tt)
 
   early-numbers : Each Early (numberQuestions p c)
-  unfolding numberQuestions allFinite
+  unfolding numberQuestions
   early-numbers = (
-    early-only (p .finiteOnly) _ (early-placed 6 (c .columns) (firstNonfinite 0 (c .matrix)) (lit≤ tt)),
+    early-entries c (p .entries),
     (
-      early-only (directed (p .beside)) _ (early-placed 7 (c .companionColumns) (firstNonfinite 0 (c .companion)) (lit≤ tt)),
-      (
-        early-only (p .raised) _ (early-ask (finite (c .exponent)) 8 0 0 (lit≤ tt)),
-        (
-          early-named (p .pivoted) c,
-          (
-            early-domain (p .domain) c,
-            (early-only (p .fromTwo) _ (early-ask (leb 2 (c .rows)) 11 0 0 (lit≤ tt)), tt),
-          ),
-        ),
-      ),
+      early-direction c (p .beside),
+      (early-exponent c (p .power), (early-pivots c (p .pivoted), (early-domain c (p .domain), (early-orders c (p .orders), tt)))),
     ),
   )
 

@@ -13,7 +13,7 @@ use Rattle.arithmetic_matrices.specs.Workspace.{slot, store, cleared, Only, mem
 use Rattle.arithmetic_questions.specs.Result.{Result, refused, done, outcome, exit, _>>=_}
 use Rattle.arithmetic_questions.specs.Questions.{Call, Profile, asked, answer}
 use Rattle.arithmetic_questions.specs.Answers.{numbered, reported, found}
-use Rattle.arithmetic_questions.specs.Outputs.{Both, TwoOutputsIn, TwoOutputsWith}
+use Rattle.arithmetic_questions.specs.Outputs.{Both, TwoOutputsWith}
 use Rattle.arithmetic_questions.specs.Kernels.{ReplacedBoth, DeliveredBoth}
 use Rattle.arithmetic_questions.specs.declared.answer.Outcome.{Outcome}
 use Rattle.arithmetic_questions.specs.declared.answer.Outcome.the-variants.{Done, Refused}
@@ -100,10 +100,7 @@ module _ (p : Profile) (c : Call) (q : Question) (h : found q ≡ asked p c) (cl
         workspace = late-where clears (g a d) w w3 w4 l (D′ .workspace) (cleared-only w w3 room all);
       })
 
--- ---- a call that clears
-
-pub clearing-two : {x : Result Both} {o : Outcome} {first first′ second second′ w w′ : List Float} → TwoOutputsWith true x o first first′ second second′ w w′ → TwoOutputsIn x o first first′ second second′ w w′
-clearing-two R = record { outcome = R .outcome; value = R .value; derivative = R .derivative; workspace = R .workspace }
+-- ---- two calls on the way
 
 -- Where the first of two calls refuses, with y, both outputs stay as they are.
 pub both-refused : {A : Type 0} (x : Result A) (g : A → Result Both) (ss : List ℕ) (n : ℕ) (o : Outcome) (y : Refusal) (w w′ : List Float)

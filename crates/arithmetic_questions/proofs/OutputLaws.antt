@@ -13,7 +13,7 @@ use Rattle.arithmetic_matrices.specs.Workspace.{slot, store, cleared, Only}
 use Rattle.arithmetic_questions.specs.Result.{Result, refused, done, _>>=_, outcome, exit, workspace}
 use Rattle.arithmetic_questions.specs.Questions.{Call, Profile, asked, answer}
 use Rattle.arithmetic_questions.specs.Answers.{numbered, reported, found}
-use Rattle.arithmetic_questions.specs.Outputs.{OneOutput, OneOutputIn, OneOutputWith}
+use Rattle.arithmetic_questions.specs.Outputs.{WorkspaceLeft, OneOutput, OneOutputWith}
 use Rattle.arithmetic_questions.specs.Kernels.{Replaced, Delivered}
 use Rattle.arithmetic_questions.specs.declared.answer.Outcome.{Outcome}
 use Rattle.arithmetic_questions.specs.declared.answer.Outcome.the-variants.{Done, Refused}
@@ -38,13 +38,13 @@ unfolding workspace
 late-workspace (refused k x y) w h = ap (λ (b : Bool). cond b w (cleared w)) (lt-leb k 11 (omega arith))
 late-workspace (done s a) w h = refl
 
--- Where nothing was to be cleared, it is so once it is cleared: w2 is what the call made of w, and w3 what is left of it.
-pub late-where : {A : Type 0} (clears : Bool) (r : Result A) (w w2 w3 : List Float) → Late r → w3 ≡ cond clears (cleared w2) w2 → cleared w2 ≡ cleared w → cond clears w3 (workspace r w3) ≡ workspace r w
+-- w2 is what the steps made of w, and w3 what is left of it
+pub late-where : {A : Type 0} (clears : Bool) (r : Result A) (w w2 w3 : List Float) → Late r → w3 ≡ cond clears (cleared w2) w2 → cleared w2 ≡ cleared w → WorkspaceLeft clears r w w3
 late-where true r w w2 w3 h d e = d ∙ e ∙ sym (late-workspace r w h)
 late-where false r w w2 w3 h d e = late-workspace r w3 h ∙ ap cleared d ∙ e ∙ sym (late-workspace r w h)
 
 -- what is left as it was lent
-pub kept-where : {A : Type 0} (clears : Bool) (r : Result A) (w : List Float) → w ≡ workspace r w → cond clears w (workspace r w) ≡ workspace r w
+pub kept-where : {A : Type 0} (clears : Bool) (r : Result A) (w : List Float) → w ≡ workspace r w → WorkspaceLeft clears r w w
 kept-where true r w e = e
 kept-where false r w e = refl
 
@@ -128,8 +128,3 @@ module _ (p : Profile) (c : Call) (q : Question) (h : found q ≡ asked p c) (cl
         output = D′ .output ∙ exit-as (slot n w2 0) before given (g a) (λ v. v) (R′ .outcome) (R′ .result);
         workspace = late-where clears (g a) w w2 w3 l (D′ .workspace) (cleared-only w w2 room all);
       })
-
--- ---- a call that clears
-
-pub clearing-one : {x : Result (List Float)} {o : Outcome} {before after w w′ : List Float} → OneOutputWith true x o before after w w′ → OneOutputIn x o before after w w′
-clearing-one R = record { outcome = R .outcome; output = R .output; workspace = R .workspace }

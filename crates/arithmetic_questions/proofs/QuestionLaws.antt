@@ -7,24 +7,20 @@ use mathlib.Core.Option.{Option, none, some}
 use native.Mathlib.Nat.{zero-add, mul-le-mul}
 use native.Mathlib.Omega.{arith}
 use lib.Arith.{digits-div, digits-mod}
-use lib.Dec.{T, ltb, leb, eqb}
+use lib.Dec.{T, ltb, eqb}
 use lib.ListN.{length}
 use borrow.Author.Tests.{leb-true, ltb-true, eqb-true}
 use lib.Ieee.{Float}
 use lib.Ieee.Scale.{finite}
 use Rattle.arithmetic_matrices.specs.Matrix.{item}
-use Rattle.arithmetic_questions.specs.Result.{Result, refused, done, _>>=_, passes, ask, only, firstNo}
-use Rattle.arithmetic_questions.specs.Questions.{Call, unary, directed, powered, binary, Companion, Profile, anywhere, inDomain, pivotsNamed, numberQuestions, asked, alone, direction, Domain, companionFits, atMost, limited, exactly, hasCompanion, hasPivots, outputLength, lengths, roomy, firstNonfinite, placed, allFinite, shapeQuestions, coded}
+use Rattle.arithmetic_questions.specs.Result.{Found, refused, done, _>>=_, passes, ask, firstNo}
+use Rattle.arithmetic_questions.specs.Questions.{Call, unary, powered, binary, Companion, withoutCompanion, direction, Exponent, withoutExponent, Domain, anywhere, Orders, everyOrder, Profile, atMost, exactly, outputLength, atLeast8192, firstNonfinite, placed, allFinite, exponentQuestion, domainQuestion, orderQuestion, shapeQuestions, numberQuestions, asked, coded}
 use Rattle.arithmetic_questions.specs.Answers.{numbered, scanned, found}
 use Rattle.arithmetic_questions.specs.declared.answer.Refusal.{Refusal}
 use Rattle.arithmetic_questions.specs.declared.answer.Refusal.the-variants.{EmptyMatrix, NotSquare, CompanionShape, TooLarge, WrongLength, EntryNotFinite, DirectionNotFinite, ExponentNotFinite, PivotOutOfRange, NotDefined, OrderOne, NormNotFinite, NotConverged, SingularColumn}
 use Rattle.arithmetic_questions.specs.declared.answer.Question.{Question}
 use Rattle.arithmetic_questions.specs.declared.answer.Question.the-variants.{Passed, No}
 use Rattle.arithmetic_questions.specs.declared.question.Scan.the-variants.{AllFinite, At}
-
--- what a question gives
-abbrev pub Found : Type 0
-Found = Result (Unit {0})
 
 -- ---- one question after another
 
@@ -204,24 +200,25 @@ finite-yes number columns a h = none-finite 0 a (placed-yes number columns (firs
 
 -- ---- the shape questions of the functions with a code
 
--- of one matrix and an output
-pub shape-alone :
-    (raised : Bool) (domain : Domain) (fromTwo : Bool) (rows columns : ℕ) (a : List Float) (p : Float) (out room : ℕ)
-    → firstNo (shapeQuestions (coded alone raised domain fromTwo) (powered rows columns a p (out ∷ []) room))
-    ≡ firstNo ((ask (ltb 0 rows) 1 0 0 ∷ ask (eqb rows columns) 2 rows columns ∷ atMost 8 rows ∷ [])
-    ++ (exactly (rows * columns) (length a) ∷ exactly (rows * columns) out ∷ roomy room ∷ []))
-unfolding firstNo _>>=_ shapeQuestions companionFits limited lengths hasCompanion hasPivots outputLength
-shape-alone raised domain fromTwo rows columns a p out room = refl
+module _ (domain : Domain) (orders : Orders) (rows columns : ℕ) (a : List Float) where
+  -- of one matrix and an output
+  pub shape-alone :
+      (power : Exponent) (p : Float) (out room : ℕ)
+      → firstNo (shapeQuestions (coded withoutCompanion power domain orders) (powered rows columns a p (out ∷ []) room))
+      ≡ firstNo ((ask (ltb 0 rows) 1 0 0 ∷ ask (eqb rows columns) 2 rows columns ∷ atMost 8 rows ∷ [])
+      ++ (exactly (rows * columns) (length a) ∷ exactly (rows * columns) out ∷ atLeast8192 room ∷ []))
+  unfolding firstNo _>>=_ shapeQuestions
+  shape-alone power p out room = refl
 
--- of a matrix, a direction and two outputs
-pub shape-directed :
-    (domain : Domain) (fromTwo : Bool) (rows columns : ℕ) (a : List Float) (rows′ columns′ : ℕ) (b : List Float) (first second room : ℕ)
-    → firstNo (shapeQuestions (coded direction false domain fromTwo) (binary rows columns a rows′ columns′ b (first ∷ second ∷ []) room))
-    ≡ firstNo ((ask (ltb 0 rows) 1 0 0 ∷ ask (eqb rows columns) 2 rows columns ∷ ask (eqb rows′ rows && eqb columns′ rows) 3 rows′ columns′ ∷ atMost 8 rows ∷ [])
-    ++ ((exactly (rows * columns) (length a) ∷ exactly (rows′ * columns′) (length b) ∷ [])
-    ++ (exactly (rows * columns) first ∷ exactly (rows * columns) second ∷ roomy room ∷ [])))
-unfolding firstNo _>>=_ shapeQuestions companionFits limited lengths hasCompanion hasPivots outputLength
-shape-directed domain fromTwo rows columns a rows′ columns′ b first second room = refl
+  -- of a matrix, a direction and two outputs
+  pub shape-directed :
+      (rows′ columns′ : ℕ) (b : List Float) (first second room : ℕ)
+      → firstNo (shapeQuestions (coded direction withoutExponent domain orders) (binary rows columns a rows′ columns′ b (first ∷ second ∷ []) room))
+      ≡ firstNo ((ask (ltb 0 rows) 1 0 0 ∷ ask (eqb rows columns) 2 rows columns ∷ ask (eqb rows′ rows && eqb columns′ rows) 3 rows′ columns′ ∷ atMost 8 rows ∷ [])
+      ++ ((exactly (rows * columns) (length a) ∷ exactly (rows′ * columns′) (length b) ∷ [])
+      ++ (exactly (rows * columns) first ∷ exactly (rows * columns) second ∷ atLeast8192 room ∷ [])))
+  unfolding firstNo _>>=_ shapeQuestions
+  shape-directed rows′ columns′ b first second room = refl
 
 -- ---- all the questions
 
@@ -246,20 +243,19 @@ module _ (p : Profile) (c : Call) (q : Question) (h : found q ≡ firstNo (shape
 
 -- what every one of them asks: 1 to 7
 abbrev pub base : Companion → Profile
-base beside = coded beside false anywhere false
+base beside = coded beside withoutExponent anywhere everyOrder
 
 -- and what some ask after that
-abbrev pub rest : Bool → Domain → Bool → Call → List Found
-rest raised domain fromTwo c =
-    only raised (ask (finite (c .exponent)) 8 0 0) ∷ inDomain domain c ∷ only fromTwo (ask (leb 2 (c .rows)) 11 0 0) ∷ []
+abbrev pub rest : Exponent → Domain → Orders → Call → List Found
+rest power domain orders c = exponentQuestion power c ∷ domainQuestion domain c ∷ orderQuestion orders c ∷ []
 
-pub numbers-alone : (c : Call) → firstNo (numberQuestions (base alone) c) ≡ firstNo (allFinite 6 (c .columns) (c .matrix) ∷ [])
-unfolding firstNo _>>=_ numberQuestions directed pivotsNamed
+pub numbers-alone : (c : Call) → firstNo (numberQuestions (base withoutCompanion) c) ≡ firstNo (allFinite 6 (c .columns) (c .matrix) ∷ [])
+unfolding firstNo _>>=_ numberQuestions
 numbers-alone c = refl
 
 pub numbers-directed :
     (c : Call) → firstNo (numberQuestions (base direction) c) ≡ firstNo (allFinite 6 (c .columns) (c .matrix) ∷ allFinite 7 (c .companionColumns) (c .companion) ∷ [])
-unfolding firstNo _>>=_ numberQuestions directed pivotsNamed
+unfolding firstNo _>>=_ numberQuestions
 numbers-directed c = refl
 
 -- a length that was asked for passes a second time
@@ -273,12 +269,13 @@ asked-twice (done s t) (done s′ t′) (done s″ t″) (done s‴ t‴) l = re
 
 -- so the matrix's length can stand for that of an output
 pub own-length :
-    (rows columns : ℕ) (a : List Float) (room : ℕ) → asked (base alone) (unary rows columns a (length a ∷ []) room) ≡ asked (base alone) (unary rows columns a [] room)
-unfolding asked shapeQuestions companionFits limited lengths hasCompanion hasPivots outputLength
+    (rows columns : ℕ) (a : List Float) (room : ℕ)
+    → asked (base withoutCompanion) (unary rows columns a (length a ∷ []) room) ≡ asked (base withoutCompanion) (unary rows columns a [] room)
+unfolding asked shapeQuestions
 own-length rows columns a room =
     let c : Call = unary rows columns a [] room in
     asked-twice (ask (ltb 0 rows) 1 0 0) (ask (eqb rows columns) 2 rows columns) (atMost 8 rows) (exactly (rows * columns) (length a))
-    (roomy room ∷ numberQuestions (base alone) c)
+    (atLeast8192 room ∷ numberQuestions (base withoutCompanion) c)
 
 regrouped :
     (s : List Found) (a b c d e : Found)
@@ -290,21 +287,20 @@ regrouped [] (done s t) (done s′ t′) c d e = refl
 regrouped (refused k x y ∷ l) a b c d e = refl
 regrouped (done s t ∷ l) a b c d e = regrouped l a b c d e
 
-module _ (beside : Companion) (raised : Bool) (domain : Domain) (fromTwo : Bool) (c : Call) where
+module _ (beside : Companion) (power : Exponent) (domain : Domain) (orders : Orders) (c : Call) where
   pub asked-rest :
-      asked (coded beside raised domain fromTwo) c ≡ firstNo (questions (base beside) c ++ rest raised domain fromTwo c)
-  unfolding asked shapeQuestions lengths numberQuestions pivotsNamed
+      asked (coded beside power domain orders) c ≡ firstNo (questions (base beside) c ++ rest power domain orders c)
+  unfolding asked shapeQuestions numberQuestions
   asked-rest = regrouped (shapeQuestions (base beside) c) _ _ _ _ _
 
-  -- a refusal of 1 to 7 is the function's
-  pub rest-no : (q : Question) {x : Refusal} → found q ≡ asked (base beside) c → q ≡ No x → found q ≡ asked (coded beside raised domain fromTwo) c
-  rest-no q h e = rw asked-rest (stops (rest raised domain fromTwo c) (told-asked (base beside) c q h) e .asks)
+  module _ (q : Question) (h : found q ≡ asked (base beside) c) where
+    -- a refusal of 1 to 7 is the function's
+    pub rest-no : {x : Refusal} → q ≡ No x → found q ≡ asked (coded beside power domain orders) c
+    rest-no e = rw asked-rest (stops (rest power domain orders c) (told-asked (base beside) c q h) e .asks)
 
-  -- and after them the rest decides
-  pub rest-asked :
-      (q r : Question) → found q ≡ asked (base beside) c → q ≡ Passed → found r ≡ firstNo (rest raised domain fromTwo c)
-      → found r ≡ asked (coded beside raised domain fromTwo) c
-  rest-asked q r h e k = rw asked-rest (goes-on (told-asked (base beside) c q h) e (told r k) .asks)
+    -- and after them the rest decides
+    pub rest-asked : (r : Question) → q ≡ Passed → found r ≡ firstNo (rest power domain orders c) → found r ≡ asked (coded beside power domain orders) c
+    rest-asked r e k = rw asked-rest (goes-on (told-asked (base beside) c q h) e (told r k) .asks)
 
 -- ---- what a call is known to be once its questions passed
 
@@ -335,15 +331,15 @@ pub record AcceptedDirection (c : Call) : Type 0 where
   pub shape : Directed c
   pub entries : (i : ℕ) → i < c .rows * c .rows → T (finite (item (c .companion) i))
 
-module _ (beside : Companion) (raised : Bool) (domain : Domain) (fromTwo : Bool) (c : Call) where
-  shaped : outputLength beside c ≡ c .rows * c .columns → Each Yes (shapeQuestions (coded beside raised domain fromTwo) c) → Shaped c
-  unfolding shapeQuestions limited lengths
+module _ (beside : Companion) (power : Exponent) (domain : Domain) (orders : Orders) (c : Call) where
+  shaped : outputLength beside c ≡ c .rows * c .columns → Each Yes (shapeQuestions (coded beside power domain orders) c) → Shaped c
+  unfolding shapeQuestions
   shaped w s =
       let square : c .rows ≡ c .columns = eqb-true _ _ (ask-yes _ 2 (c .rows) (c .columns) (s .1 .0)) in
       let filled : 0 < c .rows = ltb-true _ _ (ask-yes _ 1 0 0 (s .0)) in
       let lies : length (c .matrix) ≡ c .rows * c .columns = exactly-yes _ _ (s .1 .1 .1 .1 .0) in
       let long : length (c .matrix) ≡ c .rows * c .rows = rw (← square) at lies in
-      let (outs, room) = each-parts Yes (map (exactly (outputLength beside c)) (c .outputs)) (roomy (c .room) ∷ []) (s .1 .1 .1 .1 .1 .1 .1) in
+      let (outs, room) = each-parts Yes (map (exactly (outputLength beside c)) (c .outputs)) (atLeast8192 (c .room) ∷ []) (s .1 .1 .1 .1 .1 .1 .1) in
       record {
         filled = filled;
         square = square;
@@ -355,51 +351,48 @@ module _ (beside : Companion) (raised : Bool) (domain : Domain) (fromTwo : Bool)
         room = leb-true _ _ (ask-yes _ 5 (c .room) 8192 (room .0));
       }
 
--- with a direction
-pub directed-shape : (raised : Bool) (domain : Domain) (fromTwo : Bool) (c : Call) → Each Yes (shapeQuestions (coded direction raised domain fromTwo) c) → Directed c
-unfolding shapeQuestions companionFits limited lengths hasCompanion
-directed-shape raised domain fromTwo c s =
-    let (height, width, small) = small-direction (c .rows) (c .companionRows) (c .companionColumns) (s .1 .1 .0) (s .1 .1 .1 .0) in
-    let lies : length (c .companion) ≡ c .companionRows * c .companionColumns = exactly-yes _ _ (s .1 .1 .1 .1 .1 .0) in
-    record { height = height; width = width; lies = lies; long = rw (height, width) at lies }
-
-pub alone-shape : (raised : Bool) (domain : Domain) (fromTwo : Bool) (c : Call) → Each Yes (shapeQuestions (coded alone raised domain fromTwo) c) → Shaped c
-unfolding outputLength
-alone-shape raised domain fromTwo c = shaped alone raised domain fromTwo c refl
-
-pub beside-shape : (raised : Bool) (domain : Domain) (fromTwo : Bool) (c : Call) → Each Yes (shapeQuestions (coded direction raised domain fromTwo) c) → Shaped c
-unfolding outputLength
-beside-shape raised domain fromTwo c = shaped direction raised domain fromTwo c refl
-
-module _ (beside : Companion) (raised : Bool) (domain : Domain) (fromTwo : Bool) (c : Call) where
   -- each question of a call that passed
-  passed : (q : Question) → found q ≡ asked (coded beside raised domain fromTwo) c → q ≡ Passed
-      → Each Yes (shapeQuestions (coded beside raised domain fromTwo) c) × Each Yes (numberQuestions (coded beside raised domain fromTwo) c)
-  passed q h e = each-parts Yes (shapeQuestions (coded beside raised domain fromTwo) c) _ (all-yes (told-asked (coded beside raised domain fromTwo) c q h) e)
+  passed : (q : Question) → found q ≡ asked (coded beside power domain orders) c → q ≡ Passed
+      → Each Yes (shapeQuestions (coded beside power domain orders) c) × Each Yes (numberQuestions (coded beside power domain orders) c)
+  passed q h e = each-parts Yes (shapeQuestions (coded beside power domain orders) c) _ (all-yes (told-asked (coded beside power domain orders) c q h) e)
 
-  entries-finite : Shaped c → Each Yes (numberQuestions (coded beside raised domain fromTwo) c) → (i : ℕ) → i < c .rows * c .rows → T (finite (item (c .matrix) i))
+  entries-finite : Shaped c → Each Yes (numberQuestions (coded beside power domain orders) c) → (i : ℕ) → i < c .rows * c .rows → T (finite (item (c .matrix) i))
   unfolding numberQuestions
   entries-finite s n i h = finite-yes 6 (c .columns) (c .matrix) (n .0) i (rw (s .long) h)
 
-direction-finite : (raised : Bool) (domain : Domain) (fromTwo : Bool) (c : Call) → Directed c → Each Yes (numberQuestions (coded direction raised domain fromTwo) c)
-    → (i : ℕ) → i < c .rows * c .rows → T (finite (item (c .companion) i))
-unfolding numberQuestions directed
-direction-finite raised domain fromTwo c s n i h = finite-yes 7 (c .companionColumns) (c .companion) (n .1 .0) i (rw (s .long) h)
+module _ (power : Exponent) (domain : Domain) (orders : Orders) (c : Call) where
+  pub alone-shape : Each Yes (shapeQuestions (coded withoutCompanion power domain orders) c) → Shaped c
+  alone-shape = shaped withoutCompanion power domain orders c refl
 
-module _ (raised : Bool) (domain : Domain) (fromTwo : Bool) (c : Call) (q : Question) where
-  -- a function of one matrix
-  pub accepted : found q ≡ asked (coded alone raised domain fromTwo) c → q ≡ Passed → Accepted c
-  accepted h e =
-      let (s, n) = passed alone raised domain fromTwo c q h e in
-      let shape = alone-shape raised domain fromTwo c s in
-      record { shape = shape; entries = entries-finite alone raised domain fromTwo c shape n }
+  -- with a direction
+  pub beside-shape : Each Yes (shapeQuestions (coded direction power domain orders) c) → Shaped c
+  beside-shape = shaped direction power domain orders c refl
 
-  -- and of a matrix with a direction
-  pub accepted-directed : found q ≡ asked (coded direction raised domain fromTwo) c → q ≡ Passed → Accepted c × AcceptedDirection c
-  accepted-directed h e =
-      let (s, n) = passed direction raised domain fromTwo c q h e in
-      let shape = beside-shape raised domain fromTwo c s in
-      let fits = directed-shape raised domain fromTwo c s in (
-        record { shape = shape; entries = entries-finite direction raised domain fromTwo c shape n },
-        record { shape = fits; entries = direction-finite raised domain fromTwo c fits n },
-      )
+  pub directed-shape : Each Yes (shapeQuestions (coded direction power domain orders) c) → Directed c
+  unfolding shapeQuestions
+  directed-shape s =
+      let (height, width, small) = small-direction (c .rows) (c .companionRows) (c .companionColumns) (s .1 .1 .0) (s .1 .1 .1 .0) in
+      let lies : length (c .companion) ≡ c .companionRows * c .companionColumns = exactly-yes _ _ (s .1 .1 .1 .1 .1 .0) in
+      record { height = height; width = width; lies = lies; long = rw (height, width) at lies }
+
+  direction-finite : Directed c → Each Yes (numberQuestions (coded direction power domain orders) c) → (i : ℕ) → i < c .rows * c .rows → T (finite (item (c .companion) i))
+  unfolding numberQuestions
+  direction-finite s n i h = finite-yes 7 (c .companionColumns) (c .companion) (n .1 .0) i (rw (s .long) h)
+
+  module _ (q : Question) where
+    -- a function of one matrix
+    pub accepted : found q ≡ asked (coded withoutCompanion power domain orders) c → q ≡ Passed → Accepted c
+    accepted h e =
+        let (s, n) = passed withoutCompanion power domain orders c q h e in
+        let shape = alone-shape s in
+        record { shape = shape; entries = entries-finite withoutCompanion power domain orders c shape n }
+
+    -- and of a matrix with a direction
+    pub accepted-directed : found q ≡ asked (coded direction power domain orders) c → q ≡ Passed → Accepted c × AcceptedDirection c
+    accepted-directed h e =
+        let (s, n) = passed direction power domain orders c q h e in
+        let shape = beside-shape s in
+        let fits = directed-shape s in (
+          record { shape = shape; entries = entries-finite direction power domain orders c shape n },
+          record { shape = fits; entries = direction-finite fits n },
+        )

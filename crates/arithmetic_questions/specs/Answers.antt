@@ -1,6 +1,6 @@
--- The answers' enums as results: document 01's number and details for each case. Definitions only.
+-- What the enums of src/answer.rt and src/question.rt mean: document 01's number and details for each case. Definitions only.
 use Prim.Native.Nat.{ℕ}
-use Rattle.arithmetic_questions.specs.Result.{Result, refused, done, passes}
+use Rattle.arithmetic_questions.specs.Result.{Result, Found, refused, done, passes}
 use Rattle.arithmetic_questions.specs.declared.answer.Refusal.{Refusal}
 use Rattle.arithmetic_questions.specs.declared.answer.Refusal.the-variants.{EmptyMatrix, NotSquare, CompanionShape, TooLarge, WrongLength, EntryNotFinite, DirectionNotFinite, ExponentNotFinite, PivotOutOfRange, NotDefined, OrderOne, NormNotFinite, NotConverged, SingularColumn}
 use Rattle.arithmetic_questions.specs.declared.answer.Outcome.{Outcome}
@@ -10,6 +10,7 @@ use Rattle.arithmetic_questions.specs.declared.answer.Question.the-varia
 use Rattle.arithmetic_questions.specs.declared.question.Scan.{Scan}
 use Rattle.arithmetic_questions.specs.declared.question.Scan.the-variants.{AllFinite, At}
 
+-- the number and the two details of a refusal
 abbrev pub numbered : Refusal → Result (Unit {0})
 numbered EmptyMatrix = refused 1 0 0
 numbered (NotSquare r c) = refused 2 r c
@@ -26,17 +27,17 @@ numbered NormNotFinite = refused 12 0 0
 numbered NotConverged = refused 13 0 0
 numbered (SingularColumn k) = refused 14 k 0
 
--- what an answer reports
+-- what the outcome of an answer reports: its halvings, or its refusal
 abbrev pub reported : Outcome → Result (Unit {0})
 reported (Done s) = done s tt
 reported (Refused x) = numbered x
 
--- what question `number`, 6 or 7, finds where a scan gave this
-abbrev pub scanned : ℕ → Scan → Result (Unit {0})
+-- what question 6 or 7, `number`, finds where the search for an entry that is not finite gave this
+abbrev pub scanned : ℕ → Scan → Found
 scanned number AllFinite = passes
 scanned number (At i j) = refused number i j
 
--- what a question finds
-abbrev pub found : Question → Result (Unit {0})
+-- what the answer to a question says: it passes, or the refusal
+abbrev pub found : Question → Found
 found Passed = passes
 found (No x) = numbered x

@@ -30,6 +30,7 @@ pub record ReplacedBoth (ss : List ℕ) (n : ℕ) (x : Result Both) (o : Outcome
   pub derivative : slot n w′ 1 ≡ exit (λ (b : Both). b .derivative) x (slot n w′ 1)
   pub only : Only (member ss) w w′
 
+-- v and d are written to the two outputs where the outcome `given` is done
 pub record DeliveredBoth (clears : Bool) (given o : Outcome) (v d first first′ second second′ w w′ : List Float) : Type 0 where
   pub outcome : reported o ≡ reported given
   pub value : first′ ≡ exit (λ _. v) (reported given) first

@@ -1,4 +1,4 @@
--- The questions asked of a call, 1 to 11, each defined once, and which of them each function asks. Definitions only.
+-- The questions asked of a call, 1 to 11 of document 01, each defined once, and which of them each function asks. Definitions only.
 use Prim.Native.Nat.{ℕ, suc, _*_, _/_, _%_}
 use mathlib.Core.Bool.{Bool, true, false, cond, _&&_}
 use mathlib.Core.List.{List, [], _∷_, _++_, map}
@@ -9,10 +9,11 @@ use lib.Ieee.{Float, lt, le}
 use lib.Ieee.Scale.{finite}
 use Rattle.arithmetic_floats.specs.Float.{+zero}
 use Rattle.arithmetic_matrices.specs.Matrix.{item}
-use Rattle.arithmetic_questions.specs.Result.{Result, refused, _>>=_, passes, ask, only, firstNo}
+use Rattle.arithmetic_questions.specs.Result.{Result, Found, refused, _>>=_, passes, ask, onlyWhere, firstNo}
 
--- ---- what a call is given; a place that a function does not have is not asked about
+-- ---- what a call is given
 
+-- the matrix, what stands beside it, the exponent, the pivots, the lengths of the lent outputs and of the workspace
 pub record Call : Type 0 where
   pub rows : ℕ
   pub columns : ℕ
@@ -22,274 +23,356 @@ pub record Call : Type 0 where
   pub companion : List Float
   pub exponent : Float
   pub pivots : List ℕ
-  -- the lengths of the lent outputs, and of the workspace
   pub outputs : List ℕ
   pub room : ℕ
 
--- a matrix with an exponent, a matrix alone, and two
-abbrev pub powered : ℕ → ℕ → List Float → Float → List ℕ → ℕ → Call
-powered r c a p outs w = record {
-  rows = r;
-  columns = c;
-  matrix = a;
-  companionRows = 0;
-  companionColumns = 0;
-  companion = [];
+-- a matrix is given by its rows, its columns and its entries row by row
+abbrev pub Given : Type 0
+Given = ℕ × ℕ × List Float
+
+abbrev pub callOf : Given → Given → Float → List ℕ → List ℕ → ℕ → Call
+callOf a b p ps outs w = record {
+  rows = a .0;
+  columns = a .1;
+  matrix = a .2;
+  companionRows = b .0;
+  companionColumns = b .1;
+  companion = b .2;
   exponent = p;
-  pivots = [];
+  pivots = ps;
   outputs = outs;
   room = w;
 }
+
+-- what stands for a part that a function does not take; no question of that function reads it
+abbrev pub noMatrix : Given
+noMatrix = (0, 0, [])
+
+abbrev pub noExponent : Float
+noExponent = +zero
+
+abbrev pub noPivots : List ℕ
+noPivots = []
+
+abbrev pub noRoom : ℕ
+noRoom = 0
+
+-- a matrix with an exponent, a matrix alone, and two matrices
+abbrev pub powered : ℕ → ℕ → List Float → Float → List ℕ → ℕ → Call
+powered r c a p outs w = callOf (r, c, a) noMatrix p noPivots outs w
 
 abbrev pub unary : ℕ → ℕ → List Float → List ℕ → ℕ → Call
-unary r c a outs w = powered r c a +zero outs w
+unary r c a outs w = callOf (r, c, a) noMatrix noExponent noPivots outs w
 
 abbrev pub binary : ℕ → ℕ → List Float → ℕ → ℕ → List Float → List ℕ → ℕ → Call
-binary r c a r' c' b outs w = record {
-  rows = r;
-  columns = c;
-  matrix = a;
-  companionRows = r';
-  companionColumns = c';
-  companion = b;
-  exponent = +zero;
-  pivots = [];
-  outputs = outs;
-  room = w;
-}
+binary r c a r' c' b outs w = callOf (r, c, a) (r', c', b) noExponent noPivots outs w
 
--- ---- what a function asks
+-- ---- what a function asks: one case for each question
 
--- what stands beside the matrix
+-- 1
+pub data Emptiness : Type 0 where
+  atLeastOneRow anyRows : Emptiness
+
+-- 2
+pub data Shape : Type 0 where
+  squareOnly anyShape : Shape
+
+-- 3, 5 and 7: what stands beside the matrix
 pub data Companion : Type 0 where
-  alone direction rightHandSide second secondSquare : Companion
+  withoutCompanion direction rightHandSide secondMatrix secondSquareMatrix : Companion
 
--- the numbers that question 4 bounds
+-- 4: the numbers that have a limit, and the limit
 pub data Limits : Type 0 where
-  order8 order64 solve64 products64 : Limits
+  order8 order64 orderAndRightColumns64 sizesAndProducts64 : Limits
 
--- pivots that are an output are asked for their length, and those that are given also by question 9
+-- 5 and 9: pivots that are an output are lent, and those that are an input are given
 pub data Pivots : Type 0 where
-  without lent given : Pivots
+  withoutPivots lentPivots givenPivots : Pivots
 
--- where a number, the matrix of order 1, has to lie
+-- 5
+pub data Workspace : Type 0 where
+  withWorkspace withoutWorkspace : Workspace
+
+-- 6
+pub data Entries : Type 0 where
+  finiteEntries anyEntries : Entries
+
+-- 8
+pub data Exponent : Type 0 where
+  withExponent withoutExponent : Exponent
+
+-- 10: where a matrix of order 1, a number, has to lie
 pub data Domain : Type 0 where
   anywhere positive nonnegative : Domain
 
+-- 11
+pub data Orders : Type 0 where
+  ordersFromTwo everyOrder : Orders
+
 pub record Profile : Type 0 where
-  pub nonempty : Bool
-  pub square : Bool
+  pub emptiness : Emptiness
+  pub shape : Shape
   pub beside : Companion
   pub limits : Limits
   pub pivoted : Pivots
-  pub worked : Bool
-  pub finiteOnly : Bool
-  pub raised : Bool
+  pub workspace : Workspace
+  pub entries : Entries
+  pub power : Exponent
   pub domain : Domain
-  pub fromTwo : Bool
+  pub orders : Orders
 
--- ---- the questions
+-- ---- the questions, each by its cases
 
--- 3: a direction is n by n, a right-hand side has n rows, the second matrix of kron_sum is square
-unfoldable pub companionFits : Companion → Call → Bool
-companionFits alone c = true
+-- 1: is there a row?
+abbrev pub rowsQuestion : Emptiness → Call → Found
+rowsQuestion atLeastOneRow c = ask (ltb 0 (c .rows)) 1 0 0
+rowsQuestion anyRows c = passes
+
+-- 2: are there as many columns as rows?
+abbrev pub squareQuestion : Shape → Call → Found
+squareQuestion squareOnly c = ask (eqb (c .rows) (c .columns)) 2 (c .rows) (c .columns)
+squareQuestion anyShape c = passes
+
+-- 3: is a direction n by n, has a right-hand side n rows, is the second matrix of kron_sum square?
+abbrev pub companionFits : Companion → Call → Bool
+companionFits withoutCompanion c = true
 companionFits direction c = eqb (c .companionRows) (c .rows) && eqb (c .companionColumns) (c .rows)
 companionFits rightHandSide c = eqb (c .companionRows) (c .rows)
-companionFits second c = true
-companionFits secondSquare c = eqb (c .companionRows) (c .companionColumns)
+companionFits secondMatrix c = true
+companionFits secondSquareMatrix c = eqb (c .companionRows) (c .companionColumns)
 
--- 4: the numbers, in their order, and the limit
-abbrev pub atMost : ℕ → ℕ → Result (Unit {0})
+abbrev pub companionQuestion : Companion → Call → Found
+companionQuestion k c = ask (companionFits k c) 3 (c .companionRows) (c .companionColumns)
+
+-- 4: is each number, in this order, at most the limit?
+abbrev pub atMost : ℕ → ℕ → Found
 atMost limit x = ask (leb x limit) 4 x limit
 
-unfoldable pub limited : Limits → Call → List (Result (Unit {0}))
-limited order8 c = atMost 8 (c .rows) ∷ []
-limited order64 c = atMost 64 (c .rows) ∷ []
-limited solve64 c = atMost 64 (c .rows) ∷ atMost 64 (c .companionColumns) ∷ []
-limited products64 c = map (atMost 64)
+abbrev pub limitQuestions : Limits → Call → List Found
+limitQuestions order8 c = atMost 8 (c .rows) ∷ []
+limitQuestions order64 c = atMost 64 (c .rows) ∷ []
+limitQuestions orderAndRightColumns64 c = atMost 64 (c .rows) ∷ atMost 64 (c .companionColumns) ∷ []
+limitQuestions sizesAndProducts64 c = map (atMost 64)
     (c .rows ∷ c .columns ∷ c .companionRows ∷ c .companionColumns ∷ c .rows * c .companionRows ∷ c .columns * c .companionColumns ∷ [])
 
--- 5: exact lengths of matrix, companion, pivots, outputs
-abbrev pub exactly : ℕ → ℕ → Result (Unit {0})
+-- 5: have matrix, companion, pivots and outputs the lengths that the sizes say?
+abbrev pub exactly : ℕ → ℕ → Found
 exactly wanted x = ask (eqb x wanted) 5 x wanted
 
-unfoldable pub hasCompanion : Companion → Bool
-hasCompanion alone = false
+abbrev pub hasCompanion : Companion → Bool
+hasCompanion withoutCompanion = false
 hasCompanion direction = true
 hasCompanion rightHandSide = true
-hasCompanion second = true
-hasCompanion secondSquare = true
+hasCompanion secondMatrix = true
+hasCompanion secondSquareMatrix = true
 
-unfoldable pub hasPivots : Pivots → Bool
-hasPivots without = false
-hasPivots lent = true
-hasPivots given = true
+abbrev pub hasPivots : Pivots → Bool
+hasPivots withoutPivots = false
+hasPivots lentPivots = true
+hasPivots givenPivots = true
 
 -- the length of an output: that of the matrix, of the right-hand side, of the product
-unfoldable pub outputLength : Companion → Call → ℕ
-outputLength alone c = c .rows * c .columns
+abbrev pub outputLength : Companion → Call → ℕ
+outputLength withoutCompanion c = c .rows * c .columns
 outputLength direction c = c .rows * c .columns
 outputLength rightHandSide c = c .rows * c .companionColumns
-outputLength second c = (c .rows * c .companionRows) * (c .columns * c .companionColumns)
-outputLength secondSquare c = (c .rows * c .companionRows) * (c .columns * c .companionColumns)
+outputLength secondMatrix c = (c .rows * c .companionRows) * (c .columns * c .companionColumns)
+outputLength secondSquareMatrix c = (c .rows * c .companionRows) * (c .columns * c .companionColumns)
 
-unfoldable pub lengths : Profile → Call → List (Result (Unit {0}))
-unfolding hasCompanion hasPivots outputLength
-lengths p c =
+abbrev pub lengthQuestions : Profile → Call → List Found
+lengthQuestions p c =
     exactly (c .rows * c .columns) (length (c .matrix))
-    ∷ only (hasCompanion (p .beside)) (exactly (c .companionRows * c .companionColumns) (length (c .companion)))
-    ∷ only (hasPivots (p .pivoted)) (exactly (c .rows) (length (c .pivots)))
+    ∷ onlyWhere (hasCompanion (p .beside)) (exactly (c .companionRows * c .companionColumns) (length (c .companion)))
+    ∷ onlyWhere (hasPivots (p .pivoted)) (exactly (c .rows) (length (c .pivots)))
     ∷ map (exactly (outputLength (p .beside) c)) (c .outputs)
 
--- 5 again: the workspace has at least 8,192 numbers
-abbrev pub roomy : ℕ → Result (Unit {0})
-roomy x = ask (leb 8192 x) 5 x 8192
+-- 5 again: has the workspace at least 8,192 numbers?
+abbrev pub atLeast8192 : ℕ → Found
+atLeast8192 x = ask (leb 8192 x) 5 x 8192
 
--- 6 and 7: the first entry that is not finite, row by row, by its row and column
+abbrev pub workspaceQuestion : Workspace → Call → Found
+workspaceQuestion withWorkspace c = atLeast8192 (c .room)
+workspaceQuestion withoutWorkspace c = passes
+
+-- 6 and 7: is every entry finite? Otherwise the first that is not, row by row, by its row and column
 unfoldable pub firstNonfinite : ℕ → List Float → Option ℕ
 firstNonfinite q [] = none
 firstNonfinite q (x ∷ l) = cond (finite x) (firstNonfinite (suc q) l) (some q)
 
-unfoldable pub placed : ℕ → ℕ → Option ℕ → Result (Unit {0})
+unfoldable pub placed : ℕ → ℕ → Option ℕ → Found
 placed number columns none = passes
 placed number columns (some q) = refused number (q / columns) (q % columns)
 
-unfoldable pub allFinite : ℕ → ℕ → List Float → Result (Unit {0})
+unfoldable pub allFinite : ℕ → ℕ → List Float → Found
 unfolding firstNonfinite placed
 allFinite number columns a = placed number columns (firstNonfinite 0 a)
 
--- 7 is asked of a direction
-unfoldable pub directed : Companion → Bool
-directed alone = false
-directed direction = true
-directed rightHandSide = false
-directed second = false
-directed secondSquare = false
+-- 6: of the matrix
+abbrev pub entriesQuestion : Entries → Call → Found
+entriesQuestion finiteEntries c = allFinite 6 (c .columns) (c .matrix)
+entriesQuestion anyEntries c = passes
 
--- 9: pivot k names a row from k to n - 1
-unfoldable pub pivotsFrom : ℕ → ℕ → List ℕ → Result (Unit {0})
+-- 7: of a direction
+abbrev pub directionQuestion : Companion → Call → Found
+directionQuestion withoutCompanion c = passes
+directionQuestion direction c = allFinite 7 (c .companionColumns) (c .companion)
+directionQuestion rightHandSide c = passes
+directionQuestion secondMatrix c = passes
+directionQuestion secondSquareMatrix c = passes
+
+-- 8: is the exponent finite?
+abbrev pub exponentQuestion : Exponent → Call → Found
+exponentQuestion withExponent c = ask (finite (c .exponent)) 8 0 0
+exponentQuestion withoutExponent c = passes
+
+-- 9: does pivot k name a row from k to n - 1?
+unfoldable pub pivotsFrom : ℕ → ℕ → List ℕ → Found
 pivotsFrom n k [] = passes
 pivotsFrom n k (p ∷ ps) = cond (leb k p && ltb p n) (pivotsFrom n (suc k) ps) (refused 9 k p)
 
-unfoldable pub pivotsNamed : Pivots → Call → Result (Unit {0})
-unfolding pivotsFrom
-pivotsNamed without c = passes
-pivotsNamed lent c = passes
-pivotsNamed given c = pivotsFrom (c .rows) 0 (c .pivots)
+abbrev pub pivotsQuestion : Pivots → Call → Found
+pivotsQuestion withoutPivots c = passes
+pivotsQuestion lentPivots c = passes
+pivotsQuestion givenPivots c = pivotsFrom (c .rows) 0 (c .pivots)
 
--- 10: of order 1, the number above 0, or at least 0
-abbrev pub inDomain : Domain → Call → Result (Unit {0})
-inDomain anywhere c = passes
-inDomain positive c = only (eqb (c .rows) 1) (ask (lt +zero (item (c .matrix) 0)) 10 0 0)
-inDomain nonnegative c = only (eqb (c .rows) 1) (ask (le +zero (item (c .matrix) 0)) 10 0 0)
+-- 10: of order 1, is the number above 0, or at least 0?
+abbrev pub domainQuestion : Domain → Call → Found
+domainQuestion anywhere c = passes
+domainQuestion positive c = onlyWhere (eqb (c .rows) 1) (ask (lt +zero (item (c .matrix) 0)) 10 0 0)
+domainQuestion nonnegative c = onlyWhere (eqb (c .rows) 1) (ask (le +zero (item (c .matrix) 0)) 10 0 0)
+
+-- 11: is the order at least 2?
+abbrev pub orderQuestion : Orders → Call → Found
+orderQuestion ordersFromTwo c = ask (leb 2 (c .rows)) 11 0 0
+orderQuestion everyOrder c = passes
 
 -- ---- all of them in order: first shapes and lengths, 1 to 5, then the numbers, 6 to 11
 
-unfoldable pub shapeQuestions : Profile → Call → List (Result (Unit {0}))
-unfolding companionFits limited lengths
+unfoldable pub shapeQuestions : Profile → Call → List Found
 shapeQuestions p c =
-    only (p .nonempty) (ask (ltb 0 (c .rows)) 1 0 0)
-    ∷ only (p .square) (ask (eqb (c .rows) (c .columns)) 2 (c .rows) (c .columns))
-    ∷ ask (companionFits (p .beside) c) 3 (c .companionRows) (c .companionColumns)
-    ∷ limited (p .limits) c
-    ++ lengths p c
-    ++ only (p .worked) (roomy (c .room))
+    rowsQuestion (p .emptiness) c
+    ∷ squareQuestion (p .shape) c
+    ∷ companionQuestion (p .beside) c
+    ∷ limitQuestions (p .limits) c
+    ++ lengthQuestions p c
+    ++ workspaceQuestion (p .workspace) c
     ∷ []
 
-unfoldable pub numberQuestions : Profile → Call → List (Result (Unit {0}))
-unfolding allFinite directed pivotsNamed
+unfoldable pub numberQuestions : Profile → Call → List Found
+unfolding allFinite pivotsFrom
 numberQuestions p c =
-    only (p .finiteOnly) (allFinite 6 (c .columns) (c .matrix))
-    ∷ only (directed (p .beside)) (allFinite 7 (c .companionColumns) (c .companion))
-    ∷ only (p .raised) (ask (finite (c .exponent)) 8 0 0)
-    ∷ pivotsNamed (p .pivoted) c
-    ∷ inDomain (p .domain) c
-    ∷ only (p .fromTwo) (ask (leb 2 (c .rows)) 11 0 0)
+    entriesQuestion (p .entries) c
+    ∷ directionQuestion (p .beside) c
+    ∷ exponentQuestion (p .power) c
+    ∷ pivotsQuestion (p .pivoted) c
+    ∷ domainQuestion (p .domain) c
+    ∷ orderQuestion (p .orders) c
     ∷ []
 
 -- 1 to 11 in order: the first refusal, or it passes
-unfoldable pub asked : Profile → Call → Result (Unit {0})
+unfoldable pub asked : Profile → Call → Found
 unfolding firstNo shapeQuestions numberQuestions
 asked p c = firstNo (shapeQuestions p c ++ numberQuestions p c)
 
--- what is done where no question refuses the call
+-- the refusal of a call by its questions, or where they pass what the function gives, x
 unfoldable pub answer : {A : Type 0} → Profile → Call → Result A → Result A
 unfolding asked _>>=_
-answer p c r = asked p c >>= λ _. r
+answer p c x = asked p c >>= λ _. x
 
--- ---- the functions, one line each
+-- ---- the functions: which of them asks which question
+--
+-- x: asked, -: not asked. Column 3 says what the companion has to be, column 4 what has a limit, column 10 what the entry a of a matrix of order 1 has to be; n is the order, m the
+-- number of columns of the right-hand side, and the sizes of kron and kron_sum are the rows and columns of each matrix, the product of the rows and the product of the columns.
+-- Column 5 says whose lengths are asked, in this order: A the matrix, B the companion, P the pivots, X an output, w the workspace.
+--
+--                    1  2  3       4               5          6  7  8  9  10     11
+--   expm             x  x  -       n ≤ 8           A X w      x  -  -  -  -      x
+--   logm             x  x  -       n ≤ 8           A X w      x  -  -  -  a > 0  x
+--   sqrtm            x  x  -       n ≤ 8           A X w      x  -  -  -  a ≥ 0  -
+--   powm             x  x  -       n ≤ 8           A X w      x  -  x  -  -      x
+--   cosm             x  x  -       n ≤ 8           A X w      x  -  -  -  -      x
+--   sinm             x  x  -       n ≤ 8           A X w      x  -  -  -  -      x
+--   frechet_expm     x  x  n by n  n ≤ 8           A B X X w  x  x  -  -  -      -
+--   frechet_logm     x  x  n by n  n ≤ 8           A B X X w  x  x  -  -  a > 0  x
+--   frechet_sqrtm    x  x  n by n  n ≤ 8           A B X X w  x  x  -  -  a ≥ 0  -
+--   cond_expm        x  x  -       n ≤ 8           A w        x  -  -  -  -      -
+--   Lu::compute      -  x  -       n ≤ 64          A P X w    -  -  -  -  -      -
+--   Lu::solve        -  x  n rows  n ≤ 64, m ≤ 64  A B P X    -  -  -  x  -      -
+--   Lu::determinant  -  x  -       n ≤ 64          A P        -  -  -  x  -      -
+--   kron             -  -  -       sizes ≤ 64      A B X      -  -  -  -  -      -
+--   kron_sum         -  x  square  sizes ≤ 64      A B X      -  -  -  -  -      -
 
--- the functions with a code on a sheet: order 1 to 8, finite entries, a workspace
-abbrev pub coded : Companion → Bool → Domain → Bool → Profile
-coded beside raised domain fromTwo = record {
-  nonempty = true;
-  square = true;
+-- the ten functions with a code on a sheet: orders 1 to 8, finite entries, a workspace
+abbrev pub coded : Companion → Exponent → Domain → Orders → Profile
+coded beside power domain orders = record {
+  emptiness = atLeastOneRow;
+  shape = squareOnly;
   beside = beside;
   limits = order8;
-  pivoted = without;
-  worked = true;
-  finiteOnly = true;
-  raised = raised;
+  pivoted = withoutPivots;
+  workspace = withWorkspace;
+  entries = finiteEntries;
+  power = power;
   domain = domain;
-  fromTwo = fromTwo;
+  orders = orders;
 }
 
--- the others: order 0 too, any entries
-abbrev pub uncoded : Bool → Companion → Limits → Pivots → Bool → Profile
-uncoded square beside limits pivoted worked = record {
-  nonempty = false;
-  square = square;
+-- the five others: order 0 too, any entries
+abbrev pub uncoded : Shape → Companion → Limits → Pivots → Workspace → Profile
+uncoded shape beside limits pivoted workspace = record {
+  emptiness = anyRows;
+  shape = shape;
   beside = beside;
   limits = limits;
   pivoted = pivoted;
-  worked = worked;
-  finiteOnly = false;
-  raised = false;
+  workspace = workspace;
+  entries = anyEntries;
+  power = withoutExponent;
   domain = anywhere;
-  fromTwo = false;
+  orders = everyOrder;
 }
 
 abbrev pub ofExpm : Profile
-ofExpm = coded alone false anywhere true
+ofExpm = coded withoutCompanion withoutExponent anywhere ordersFromTwo
 
 abbrev pub ofLogm : Profile
-ofLogm = coded alone false positive true
+ofLogm = coded withoutCompanion withoutExponent positive ordersFromTwo
 
 abbrev pub ofSqrtm : Profile
-ofSqrtm = coded alone false nonnegative false
+ofSqrtm = coded withoutCompanion withoutExponent nonnegative everyOrder
 
 abbrev pub ofPowm : Profile
-ofPowm = coded alone true anywhere true
+ofPowm = coded withoutCompanion withExponent anywhere ordersFromTwo
 
 abbrev pub ofCosm : Profile
-ofCosm = coded alone false anywhere true
+ofCosm = coded withoutCompanion withoutExponent anywhere ordersFromTwo
 
 abbrev pub ofSinm : Profile
-ofSinm = coded alone false anywhere true
+ofSinm = coded withoutCompanion withoutExponent anywhere ordersFromTwo
 
 abbrev pub ofFrechetExpm : Profile
-ofFrechetExpm = coded direction false anywhere false
+ofFrechetExpm = coded direction withoutExponent anywhere everyOrder
 
 abbrev pub ofFrechetLogm : Profile
-ofFrechetLogm = coded direction false positive true
+ofFrechetLogm = coded direction withoutExponent positive ordersFromTwo
 
 abbrev pub ofFrechetSqrtm : Profile
-ofFrechetSqrtm = coded direction false nonnegative false
+ofFrechetSqrtm = coded direction withoutExponent nonnegative everyOrder
 
 abbrev pub ofCondExpm : Profile
-ofCondExpm = coded alone false anywhere false
+ofCondExpm = coded withoutCompanion withoutExponent anywhere everyOrder
 
 abbrev pub ofCompute : Profile
-ofCompute = uncoded true alone order64 lent true
+ofCompute = uncoded squareOnly withoutCompanion order64 lentPivots withWorkspace
 
 abbrev pub ofSolve : Profile
-ofSolve = uncoded true rightHandSide solve64 given false
+ofSolve = uncoded squareOnly rightHandSide orderAndRightColumns64 givenPivots withoutWorkspace
 
 abbrev pub ofDeterminant : Profile
-ofDeterminant = uncoded true alone order64 given false
+ofDeterminant = uncoded squareOnly withoutCompanion order64 givenPivots withoutWorkspace
 
 abbrev pub ofKron : Profile
-ofKron = uncoded false second products64 without false
+ofKron = uncoded anyShape secondMatrix sizesAndProducts64 withoutPivots withoutWorkspace
 
 abbrev pub ofKronSum : Profile
-ofKronSum = uncoded true secondSquare products64 without false
+ofKronSum = uncoded squareOnly secondSquareMatrix sizesAndProducts64 withoutPivots withoutWorkspace

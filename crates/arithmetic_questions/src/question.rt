@@ -9,8 +9,8 @@ ghost use lib.Ieee.{lt, le};
 ghost use lib.Ieee.Scale.{finite};
 ghost use Rattle.arithmetic_floats.specs.Float.{+zero};
 ghost use Rattle.arithmetic_matrices.specs.Matrix.{item};
-ghost use Rattle.arithmetic_questions.specs.Result.{passes, firstNo, only, ask as askOf};
-ghost use Rattle.arithmetic_questions.specs.Questions.{atMost, exactly, roomy, allFinite, unary, powered, binary, shapeQuestions, asked, ofExpm, ofLogm, ofSqrtm, ofPowm, ofFrechetExpm, ofFrechetLogm, ofFrechetSqrtm, ofCondExpm};
+ghost use Rattle.arithmetic_questions.specs.Result.{passes, firstNo, onlyWhere, ask as askOf};
+ghost use Rattle.arithmetic_questions.specs.Questions.{atMost, exactly, atLeast8192, allFinite, unary, powered, binary, shapeQuestions, asked, ofExpm, ofLogm, ofSqrtm, ofPowm, ofFrechetExpm, ofFrechetLogm, ofFrechetSqrtm, ofCondExpm};
 ghost use Rattle.arithmetic_questions.specs.Answers.{numbered, scanned, found};
 use crate::answer::Question;
 use crate::answer::Refusal;
@@ -75,7 +75,7 @@ pub fn ask_length(x: usize, wanted: usize) -> Question
 
 // 5: is a workspace of x numbers large enough?
 pub fn ask_room(x: usize) -> Question
-    ensures { λ r. ⌜ found r ≡ roomy x ⌝ }
+    ensures { λ r. ⌜ found r ≡ atLeast8192 x ⌝ }
 {
     ask(8192 <= x, Refusal::WrongLength(x, 8192))
 }
@@ -134,7 +134,7 @@ pub fn ask_exponent(p: f64) -> Question
 // 10: is a matrix of order 1 a number above 0?
 pub fn ask_positive(rows: usize, a: &[f64]) -> Question
     requires { ⌜ 0 < length (now a) ⌝ }
-    ensures { λ r. ⌜ found r ≡ only (eqb rows 1) (askOf (lt +zero (item (now (a .entry)) 0)) 10 0 0) ⌝ }
+    ensures { λ r. ⌜ found r ≡ onlyWhere (eqb rows 1) (askOf (lt +zero (item (now (a .entry)) 0)) 10 0 0) ⌝ }
 {
     if rows != 1 {
         return Question::Passed;
@@ -145,7 +145,7 @@ pub fn ask_positive(rows: usize, a: &[f64]) -> Question
 // 10: is a matrix of order 1 a number that is at least 0?
 pub fn ask_nonnegative(rows: usize, a: &[f64]) -> Question
     requires { ⌜ 0 < length (now a) ⌝ }
-    ensures { λ r. ⌜ found r ≡ only (eqb rows 1) (askOf (le +zero (item (now (a .entry)) 0)) 10 0 0) ⌝ }
+    ensures { λ r. ⌜ found r ≡ onlyWhere (eqb rows 1) (askOf (le +zero (item (now (a .entry)) 0)) 10 0 0) ⌝ }
 {
     if rows != 1 {
         return Question::Passed;
@@ -188,7 +188,7 @@ pub fn ask_order(rows: usize, columns: usize) -> Question
 
 // 5, of two slices and a workspace.
 pub fn ask_lengths(first: usize, second: usize, wanted: usize, room: usize) -> Question
-    ensures { λ r. ⌜ found r ≡ firstNo (exactly wanted first ∷ exactly wanted second ∷ roomy room ∷ []) ⌝ }
+    ensures { λ r. ⌜ found r ≡ firstNo (exactly wanted first ∷ exactly wanted second ∷ atLeast8192 room ∷ []) ⌝ }
 {
     let lengths = first_no(ask_length(first, wanted), ask_length(second, wanted));
     first_no(lengths, ask_room(room))
@@ -252,7 +252,7 @@ pub fn ask_direction_shape(
 // 10 and 11 of a logarithm.
 pub fn ask_logarithm(rows: usize, a: &[f64]) -> Question
     requires { ⌜ 0 < length (now a) ⌝ }
-    ensures { λ r. ⌜ found r ≡ firstNo (only (eqb rows 1) (askOf (lt +zero (item (now (a .entry)) 0)) 10 0 0) ∷ askOf (leb 2 rows) 11 0 0 ∷ []) ⌝ }
+    ensures { λ r. ⌜ found r ≡ firstNo (onlyWhere (eqb rows 1) (askOf (lt +zero (item (now (a .entry)) 0)) 10 0 0) ∷ askOf (leb 2 rows) 11 0 0 ∷ []) ⌝ }
 {
     first_no(ask_positive(rows, a), ask_from_two(rows))
 }

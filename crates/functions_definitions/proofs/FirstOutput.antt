@@ -18,7 +18,7 @@ use Rattle.arithmetic_questions.specs.declared.answer.Outcome.{Outcome}
 use Rattle.arithmetic_questions.specs.declared.answer.Refusal.{Refusal}
 use Rattle.arithmetic_matrices.proofs.MatrixLaws.{at-grid, grid-is}
 use Rattle.arithmetic_matrices.proofs.Corner.{Corner}
-use Rattle.functions_definitions.specs.Exponential.{exponential, block, quarter, quarterRow}
+use Rattle.functions_definitions.specs.Exponential.{exponential, block, quarter}
 use Rattle.functions_definitions.specs.Frechet.{Proviso, FirstAlone}
 use Rattle.functions_definitions.proofs.HalvingLaws.{not-done}
 use Rattle.functions_definitions.proofs.PadeLaws.{exponential-corner, length-exponential}
@@ -46,7 +46,7 @@ block-corner n a e =
 
 -- the theorem, at every order that the format counts
 pub first-output-alone : (f : Format) (n s : ℕ) (a e : List Float) → n + n ≤ 2 ^ prec f → Proviso f n s a e → quarter n 0 (exponential f (n + n) s (block n a e)) ≡ exponential f n s a
-unfolding quarter quarterRow
+unfolding quarter
 first-output-alone f n s a e h v =
     let X = exponential f (n + n) s (block n a e) in
     let c = exponential-corner f n (n + n) (double n) h s a (block n a e) (block-corner n a e) (v .finite) (v .accepted) in

@@ -9,7 +9,7 @@ use lib.Ieee.{Float, Format, emax, fits}
 use lib.Ieee.Scale.{finite}
 use Rattle.arithmetic_floats.specs.Float.{halvings}
 use Rattle.arithmetic_questions.specs.Result.{Result, refused, done, _>>=_, outcome, passes, ask}
-use Rattle.arithmetic_questions.specs.Answers.{numbered, reported, found}
+use Rattle.arithmetic_questions.specs.Answers.{numbered, found}
 use Rattle.arithmetic_questions.specs.declared.answer.Question.{Question}
 use Rattle.arithmetic_questions.specs.declared.answer.Question.the-variants.{Passed, No}
 use Rattle.arithmetic_questions.specs.declared.answer.Refusal.{Refusal}

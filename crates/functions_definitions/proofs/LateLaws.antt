@@ -8,7 +8,7 @@ use Rattle.functions_definitions.specs.Powers.{expM, wholePower, fractio
 use Rattle.functions_definitions.proofs.HalvingLaws.{halvings-late}
 use Rattle.functions_definitions.specs.Exponential.{exponential, block}
 use Rattle.arithmetic_questions.specs.Result.{Result, refused, done, _>>=_}
-use Rattle.functions_definitions.specs.Derivatives.{frechetExpM, blockQuarters, unitDirection, conditioned, condExpM, logStep, frechetLogM, sylvesterMatrix, sylvester, scalarDerivative, rootDerivative, frechetSqrtM}
+use Rattle.functions_definitions.specs.Derivatives.{frechetExpM, blockQuarters, unitDirection, conditioned, condExpM, logStep, secondLogarithm, frechetLogM, sylvesterMatrix, columnDivision, sylvester, scalarDerivative, rootDerivative, frechetSqrtM}
 use Rattle.arithmetic_questions.specs.Outputs.{Both}
 use native.Mathlib.Omega.{arith}
 use mathlib.Core.Bool.{Bool, true, false, cond}
@@ -16,12 +16,11 @@ use mathlib.Core.Option.{Option, none, some}
 use lib.Dec.{eqb}
 use Rattle.arithmetic_floats.specs.Root.{sqrtOf}
 use Rattle.arithmetic_matrices.specs.Matrix.{item}
-use Rattle.arithmetic_matrices.specs.Product.{accumulateM, transposeM, timesM}
-use Rattle.lu_factoring.specs.Lu.{luOutcome, luFactors, luPivots}
-use Rattle.lu_factoring.specs.Solve.{solved, whereFactored, inverse}
+use Rattle.arithmetic_matrices.specs.Product.{addMultipleM, transposeM, timesM}
+use Rattle.lu_factoring.specs.Solve.{inverse}
 use Rattle.functions_definitions.specs.Iterate.{Step, running, stopped, failed, ended}
-use Rattle.functions_definitions.specs.Roots.{orNotConverged, denmanBeavers, squareRoot}
-use Rattle.functions_definitions.specs.Logarithm.{rooting, series, logarithm}
+use Rattle.functions_definitions.specs.Roots.{orNotConverged, passLimit, denmanBeavers, squareRoot}
+use Rattle.functions_definitions.specs.Logarithm.{rootLimit, rooting, furtherTerms, series, logarithm}
 use lib.IntN.{ℤ, pos, negsuc}
 use Rattle.arithmetic_floats.specs.Float.{integerOf}
 
@@ -59,25 +58,24 @@ pub late-root : (f : Format) (n : ℕ) (a : List Float) → Late (squareRoot f n
 unfolding squareRoot
 late-root f n a = go (eqb n 1)
   where
-    go : (b : Bool) → Late (cond b (done 0 (sqrtOf f (item a 0) ∷ [])) (ended (denmanBeavers f n a 100) >>= λ p. done 0 (p .y)))
+    go : (b : Bool) → Late (cond b (done 0 (sqrtOf f (item a 0) ∷ [])) (ended (denmanBeavers f n a passLimit) >>= λ p. done 0 (p .y)))
     go true = tt
-    go false = late-bind (ended (denmanBeavers f n a 100)) (λ p. done 0 (p .y)) (late-ended (denmanBeavers f n a 100)) (λ p. tt)
+    go false = late-bind (ended (denmanBeavers f n a passLimit)) (λ p. done 0 (p .y)) (late-ended (denmanBeavers f n a passLimit)) (λ p. tt)
 
 pub late-logarithm : (f : Format) (n : ℕ) (a : List Float) → Late (logarithm f n a)
 unfolding logarithm
 late-logarithm f n a =
-    late-bind (ended (rooting f n a 100)) _ (late-ended (rooting f n a 100)) (λ r. late-bind (ended (series f n _ 59)) _ (late-ended (series f n _ 59)) (λ s. tt))
+    late-bind (ended (rooting f n a rootLimit)) _ (late-ended (rooting f n a rootLimit)) (λ r. late-bind (ended (series f n _ furtherTerms)) _ (late-ended (series f n _ furtherTerms)) (λ s. tt))
 
 pub late-frechet-logarithm : (f : Format) (n : ℕ) (a e : List Float) → Late (frechetLogM f n a e)
-unfolding frechetLogM
+unfolding frechetLogM secondLogarithm
 late-frechet-logarithm f n a e =
-    late-bind (logarithm f n a) _ (late-logarithm f n a) (λ l. late-bind (logarithm f n (accumulateM f n (logStep f) e a)) _ (late-logarithm f n (accumulateM f n (logStep f) e a)) (λ m. tt))
+    late-bind (logarithm f n a) _ (late-logarithm f n a) (λ l. late-bind (logarithm f n (addMultipleM f n (logStep f) e a)) _ (late-logarithm f n (addMultipleM f n (logStep f) e a)) (λ m. tt))
 
 late-sylvester : (f : Format) (n : ℕ) (s e : List Float) → Late (sylvester f n s e)
 unfolding sylvester
 late-sylvester f n s e =
-    let k = sylvesterMatrix f n s in
-    let x = whereFactored (luOutcome f (n * n) k) (solved f (n * n) (luFactors f (n * n) k) (luPivots f (n * n) k) (transposeM n e)) in
+    let x = columnDivision f (n * n) (sylvesterMatrix f n s) (transposeM n e) in
     late-bind (orNotConverged x) (λ v. done 0 (transposeM n v)) (late-solution x) (λ v. tt)
 
 late-derivative : (f : Format) (n : ℕ) (s e : List Float) → Late (rootDerivative f n s e)

@@ -2,13 +2,14 @@
 use Prim.Native.Nat.{ℕ, _+_, _*_, _/_, _%_}
 use mathlib.Core.Bool.{cond}
 use mathlib.Core.List.{List, [], _∷_}
+use mathlib.Core.Option.{Option}
 use lib.IntN.{pos}
 use lib.Dec.{eqb}
 use lib.Ieee.{Float, Format, binary64, add, mul, div, lt, ofInt}
 use Rattle.arithmetic_floats.specs.Float.{+zero, one, epsilon, constant, powerOfTwo}
 use Rattle.arithmetic_floats.specs.Root.{sqrtOf}
 use Rattle.arithmetic_matrices.specs.Matrix.{item, at, grid}
-use Rattle.arithmetic_matrices.specs.Product.{accumulateM, differenceQuotientM, diagonalM, transposeM}
+use Rattle.arithmetic_matrices.specs.Product.{addMultipleM, differenceQuotientM, diagonalM, transposeM}
 use Rattle.arithmetic_matrices.specs.Norm.{frobenius}
 use Rattle.arithmetic_questions.specs.Result.{Result, refused, done, _>>=_}
 use Rattle.arithmetic_questions.specs.Outputs.{Both}
@@ -33,33 +34,34 @@ frechetExpM f n a e = blockQuarters n (expM f (n + n) (block n a e))
 unfoldable pub logStep : Format → Float
 logStep f = sqrtOf f (epsilon f)
 
--- what follows the first logarithm, l, of the matrix a: the one of a moved a step in the direction e, and the difference quotient
+-- after l, the logarithm of a: the one of a + h e, and the difference quotient
 unfoldable pub secondLogarithm : Format → ℕ → List Float → List Float → List Float → Result Both
-secondLogarithm f n e a l = logarithm f n (accumulateM f n (logStep f) e a) >>= λ m. done 0 (record { value = l; derivative = differenceQuotientM f n (logStep f) m l })
+secondLogarithm f n a e l = logarithm f n (addMultipleM f n (logStep f) e a) >>= λ m. done 0 (record { value = l; derivative = differenceQuotientM f n (logStep f) m l })
 
 unfoldable pub frechetLogM : Format → ℕ → List Float → List Float → Result Both
-frechetLogM f n a e =
-    logarithm f n a >>= λ l.
-    logarithm f n (accumulateM f n (logStep f) e a) >>= λ m.
-    done 0 (record { value = l; derivative = differenceQuotientM f n (logStep f) m l })
+frechetLogM f n a e = logarithm f n a >>= λ l. secondLogarithm f n a e l
 
 -- ---- the square root: S X + X S' = E, S' the transpose of S, as one system for the columns of X, one below the other
 
--- The system's matrix, of order n * n: block (p, q) has S on its diagonal blocks (p = q) and s(p, q) on its own diagonal (r = c), summed from +0.
-unfoldable pub sylvesterEntry : Format → ℕ → List Float → ℕ → ℕ → ℕ → ℕ → Float
-sylvesterEntry f n s p q r c =
-    let first = cond (eqb p q) (add f +zero (at n s r c)) +zero in
-    cond (eqb r c) (add f first (at n s p q)) first
+-- x with v added to it where i is j
+abbrev pub addedWhere : Format → Float → ℕ → ℕ → Float → Float
+addedWhere f x i j v = cond (eqb i j) (add f x v) x
 
+-- I ⊗ S + S ⊗ I as the source adds it up: +0, plus s(r, c) where p = q, plus s(p, q) where r = c. This is entry (r, c) of block (p, q).
+unfoldable pub sylvesterEntry : Format → ℕ → List Float → ℕ → ℕ → ℕ → ℕ → Float
+sylvesterEntry f n s p q r c = addedWhere f (addedWhere f +zero p q (at n s r c)) r c (at n s p q)
+
+-- the system's matrix, of order n * n, in n by n blocks of order n
 unfoldable pub sylvesterMatrix : Format → ℕ → List Float → List Float
 sylvesterMatrix f n s = grid (n * n) (n * n) (λ i j. sylvesterEntry f n s (i / n) (j / n) (i % n) (j % n))
 
--- The columns of E one below the other are its transpose as a list, and so back.
+-- d x = b for one column b: nothing where LU refuses d
+unfoldable pub columnDivision : Format → ℕ → List Float → List Float → Option (List Float)
+columnDivision f n d b = whereFactored (luOutcome f n d) (solved f n (luFactors f n d) (luPivots f n d) b)
+
+-- X, by one system. The columns of E one below the other are its transpose as a list, and so back.
 unfoldable pub sylvester : Format → ℕ → List Float → List Float → Result (List Float)
-sylvester f n s e =
-    let k = sylvesterMatrix f n s in
-    orNotConverged (whereFactored (luOutcome f (n * n) k) (solved f (n * n) (luFactors f (n * n) k) (luPivots f (n * n) k) (transposeM n e))) >>= λ x.
-    done 0 (transposeM n x)
+sylvester f n s e = orNotConverged (columnDivision f (n * n) (sylvesterMatrix f n s) (transposeM n e)) >>= λ x. done 0 (transposeM n x)
 
 -- at order 1: e / (2 r), or +0 where the root r is not above 0
 unfoldable pub scalarDerivative : Format → Float → Float → Float

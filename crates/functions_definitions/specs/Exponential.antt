@@ -7,19 +7,11 @@ use lib.Dec.{ltb, eqb}
 use lib.Ieee.{Float, Format, neg, mul, div, ofInt}
 use Rattle.arithmetic_floats.specs.Float.{+zero, one, inversePowerOfTwo}
 use Rattle.arithmetic_matrices.specs.Matrix.{grid, at}
-use Rattle.arithmetic_matrices.specs.Product.{dot, mulM, scaleM, identityM, squared}
+use Rattle.arithmetic_matrices.specs.Product.{dot, mulM, timesM, identityM, squared}
 use Rattle.lu_factoring.specs.Lu.{luOutcome}
 use Rattle.lu_factoring.specs.Solve.{standIn, quotient}
 
--- ---- powers
-
--- a to the k: the identity, a, and each further power the previous times a
-unfoldable pub power : Format → ℕ → List Float → ℕ → List Float
-power f n a zero = identityM n
-power f n a (suc zero) = a
-power f n a (suc (suc k)) = mulM f n (power f n a (suc k)) a
-
--- ---- the Padé quotient
+-- ---- the coefficients of the Padé quotient of degree 13
 
 -- c (k + 1) from c k, which is c: (c * (13 - k)) / ((k + 1) * (26 - k)), each operation rounded
 unfoldable pub nextCoefficient : Format → ℕ → Float → Float
@@ -35,33 +27,49 @@ coefficient f (suc k) = nextCoefficient f k (coefficient f k)
 abbrev pub flip : ℕ → Float → Float
 flip k c = cond (eqb (k % 2) 0) c (neg c)
 
+-- the denominator's coefficients
 unfoldable pub flipped : Format → ℕ → Float
 flipped f k = flip k (coefficient f k)
 
--- c 0 * power 0 + .. + c (m - 1) * power (m - 1), from +0 and in this order
-unfoldable pub combinationTo : Format → ℕ → (ℕ → Float) → List Float → ℕ → List Float
-combinationTo f n c a m = grid n n (λ i j. dot f m c (λ k. at n (power f n a k) i j))
+module _ (f : Format) (n : ℕ) where
+  -- ---- powers
 
-unfoldable pub combination : Format → ℕ → (ℕ → Float) → List Float → List Float
-unfolding combinationTo
-combination f n c a = combinationTo f n c a 14
+  -- a to the k: the identity, a, and each further power the previous times a
+  unfoldable pub power : List Float → ℕ → List Float
+  power a zero = identityM n
+  power a (suc zero) = a
+  power a (suc (suc k)) = mulM f n (power a (suc k)) a
 
-unfoldable pub numerator : Format → ℕ → List Float → List Float
-numerator f n a = combination f n (coefficient f) a
+  -- ---- the Padé quotient
 
-unfoldable pub denominator : Format → ℕ → List Float → List Float
-denominator f n a = combination f n (flipped f) a
+  -- c 0 * power 0 + .. + c (m - 1) * power (m - 1), from +0 and in this order
+  unfoldable pub combinationTo : (ℕ → Float) → List Float → ℕ → List Float
+  combinationTo c a m = grid n n (λ i j. dot f m c (λ k. at n (power a k) i j))
 
-unfoldable pub pade : Format → ℕ → List Float → List Float
-pade f n a = standIn (luOutcome f n (denominator f n a)) (quotient f n (denominator f n a) (numerator f n a)) (numerator f n a)
+  -- up to power 13
+  unfoldable pub combination : (ℕ → Float) → List Float → List Float
+  unfolding combinationTo
+  combination c a = combinationTo c a 14
 
--- a times 2 ^ -s
-unfoldable pub scaled : Format → ℕ → ℕ → List Float → List Float
-scaled f n s a = scaleM f n (inversePowerOfTwo s) a
+  unfoldable pub numerator : List Float → List Float
+  numerator a = combination (coefficient f) a
 
--- the exponential of a, of order n, at s halvings
-unfoldable pub exponential : Format → ℕ → ℕ → List Float → List Float
-exponential f n s a = squared f n s (pade f n (scaled f n s a))
+  unfoldable pub denominator : List Float → List Float
+  denominator a = combination (flipped f) a
+
+  -- the numerator divided by the denominator, or the numerator alone where LU refuses the denominator
+  unfoldable pub pade : List Float → List Float
+  pade a = standIn (luOutcome f n (denominator a)) (quotient f n (denominator a) (numerator a)) (numerator a)
+
+  -- ---- the exponential
+
+  -- a times 2 ^ -s
+  unfoldable pub scaled : ℕ → List Float → List Float
+  scaled s a = timesM f n (inversePowerOfTwo s) a
+
+  -- the exponential of a at s halvings: the quotient at a times 2 ^ -s, squared s times
+  unfoldable pub exponential : ℕ → List Float → List Float
+  exponential s a = squared f n s (pade (scaled s a))
 
 -- ---- the block
 
@@ -69,11 +77,6 @@ exponential f n s a = squared f n s (pade f n (scaled f n s a))
 unfoldable pub block : ℕ → List Float → List Float → List Float
 block n a e = grid (n + n) (n + n) (λ i j. cond (ltb i n) (cond (ltb j n) (at n a i j) (at n e i (j - n))) (cond (ltb j n) +zero (at n a (i - n) (j - n))))
 
--- row i, and all rows, of the upper quarter, of order n, that starts at column c of a matrix of order 2 n: the first output stands at 0, the second at n
-unfoldable pub quarterRow : ℕ → ℕ → List Float → ℕ → ℕ → Float
-quarterRow n c b i j = at (n + n) b i (c + j)
-
+-- the upper quarter, of order n, that starts at column c of a matrix b of order 2 n: the upper left at 0, the upper right at n
 unfoldable pub quarter : ℕ → ℕ → List Float → List Float
-quarter n c b = grid n n (quarterRow n c b)
-
--- ---- a run in a workspace: the matrix stands in slot 0, a power of it in slot 1, the numerator in slot 2, the denominator in slot 3, the quotient in slot 5
+quarter n c b = grid n n (λ i j. at (n + n) b i (c + j))

@@ -4,22 +4,23 @@ use Prim.Native.Nat.{ℕ, zero, suc}
 use mathlib.Core.Bool.{Bool, true, false}
 use Rattle.arithmetic_questions.specs.Result.{Result, refused, done}
 
+-- where an iteration with states of type S stands: it goes on, it stopped because its test held, or LU refused a matrix
 pub data Step (S : Type 0) : Type 0 where
   running stopped : S → Step S
   failed : Step S
 
--- the next pass, where there is one
+-- the pass g, unless the iteration has stopped or failed
 unfoldable pub advance : {S : Type 0} → (S → Step S) → Step S → Step S
 advance g (running x) = g x
 advance g (stopped x) = stopped x
 advance g failed = failed
 
--- after i passes from x, pass i being g i
+-- after i passes from x, the passes being g 0, g 1, ..
 unfoldable pub after : {S : Type 0} → (ℕ → S → Step S) → S → ℕ → Step S
 after g x zero = running x
 after g x (suc i) = advance (g i) (after g x i)
 
--- a pass ends the iteration where its test holds; the new state counts either way
+-- a pass that leaves x is the last where its test holds; x counts either way
 abbrev pub verdict : {S : Type 0} → Bool → S → Step S
 verdict true x = stopped x
 verdict false x = running x

@@ -12,5 +12,3 @@ kronM f m n a p q b = grid (m * p) (n * q) (λ i j. mul f (at n a (i / p) (j / q
 -- a ⊗ I + I ⊗ b, the products formed with the zeros of I; a is of order m, b of order p
 unfoldable pub kronSumM : Format → ℕ → List Float → ℕ → List Float → List Float
 kronSumM f m a p b = addM f (m * p) (kronM f m m a p p (identityM p)) (kronM f m m (identityM m) p p b)
-
--- ---- as the code forms them: m by n blocks, each of p by q entries

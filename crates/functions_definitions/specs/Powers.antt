@@ -23,6 +23,7 @@ halvingsFor x = cond (finite x) (done 0 (halvings x)) (refused 12 0 0)
 unfoldable pub halvingsReport : Float → Result (Unit {0})
 halvingsReport x = halvingsFor x >>= λ s. done s tt
 
+-- expm: its halvings are those of the 1-norm
 unfoldable pub expM : Format → ℕ → List Float → Result (List Float)
 expM f n a = halvingsFor (norm1 f n a) >>= λ s. done s (exponential f n s a)
 
@@ -33,25 +34,22 @@ unfoldable pub bitPower : Format → ℕ → List Float → ℕ → ℕ → List
 bitPower f n b e zero = identityM n
 bitPower f n b e (suc i) = let r = bitPower f n b e i in cond (eqb (e / 2 ^ i % 2) 1) (mulM f n r (squared f n i b)) r
 
--- the power e of the inverse
+-- the power e of the inverse: refusal 13 where LU refuses a
 abbrev pub inversePower : Format → ℕ → List Float → ℕ → Result (List Float)
 inversePower f n a e = orNotConverged (inverse f n a) >>= λ b. done 0 (bitPower f n b e 64)
 
 -- a negative power is that of the inverse
 unfoldable pub wholePower : Format → ℕ → List Float → ℤ → Result (List Float)
 wholePower f n a (pos e) = done 0 (bitPower f n a e 64)
-wholePower f n a (negsuc e) = orNotConverged (inverse f n a) >>= λ b. done 0 (bitPower f n b (suc e) 64)
+wholePower f n a (negsuc e) = inversePower f n a (suc e)
 
 -- the exponential of p times l, with no halvings reported
 abbrev pub multipleExponential : Format → ℕ → Float → List Float → Result (List Float)
 multipleExponential f n p l = expM f n (timesM f n p l) >>= λ x. done 0 x
 
--- any other power: exp (p log A), with no halvings reported
+-- any other power: exp (p log A)
 unfoldable pub fractionalPower : Format → ℕ → List Float → Float → Result (List Float)
-fractionalPower f n a p =
-    logarithm f n a >>= λ l.
-    expM f n (timesM f n p l) >>= λ x.
-    done 0 x
+fractionalPower f n a p = logarithm f n a >>= λ l. multipleExponential f n p l
 
 -- p is taken for a whole number within 1e-14 of one. The test is binary64's in both formats.
 unfoldable pub isWhole : Float → Bool

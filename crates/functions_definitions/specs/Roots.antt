@@ -20,53 +20,63 @@ abbrev pub orNotConverged : {A : Type 0} → Option A → Result A
 orNotConverged none = refused 13 0 0
 orNotConverged (some x) = done 0 x
 
--- 100 * epsilon
+-- a pass is the last where the Frobenius norm of the change is below this: 100 * epsilon
 unfoldable pub rootTolerance : Format → Float
 rootTolerance f = mul f (epsilon f) (ofInt f (pos 100))
 
--- ---- Newton: x becomes (x + y) / 2, where x y = a
+-- either iteration makes at most so many passes
+abbrev pub passLimit : ℕ
+passLimit = 100
 
-unfoldable pub newtonNext : Format → ℕ → List Float → Option (List Float) → Step (List Float)
-newtonNext f n x none = failed
-newtonNext f n x (some y) = verdict (lt (normOfDifference f n x (meanM f n x y)) (rootTolerance f)) (meanM f n x y)
+module _ (f : Format) (n : ℕ) where
+  -- ---- Newton: x becomes (x + y) / 2, where x y = a
 
-unfoldable pub newtonStep : Format → ℕ → List Float → List Float → Step (List Float)
-newtonStep f n a x = newtonNext f n x (division f n x a)
+  -- given y, or nothing where LU refuses x; the test is that of x
+  unfoldable pub newtonNext : List Float → Option (List Float) → Step (List Float)
+  newtonNext x none = failed
+  newtonNext x (some y) = verdict (lt (normOfDifference f n x (meanM f n x y)) (rootTolerance f)) (meanM f n x y)
 
--- the start: the root of trace / n, or 1 unless that exceeds epsilon, times I
-unfoldable pub newtonScale : Format → ℕ → List Float → Float
-newtonScale f n a = let r = sqrtOf f (div f (trace f n a) (ofInt f (pos n))) in cond (lt (epsilon f) r) r one
+  -- a pass
+  unfoldable pub newtonStep : List Float → List Float → Step (List Float)
+  newtonStep a x = newtonNext x (division f n x a)
 
-unfoldable pub newtonStart : Format → ℕ → List Float → List Float
-newtonStart f n a = diagonalM n (newtonScale f n a)
+  -- the start is this number times I: the root of trace / n, or 1 unless that exceeds epsilon
+  unfoldable pub newtonScale : List Float → Float
+  newtonScale a = let r = sqrtOf f (div f (trace f n a) (ofInt f (pos n))) in cond (lt (epsilon f) r) r one
 
--- after i passes, and after at most 100
-unfoldable pub newton : Format → ℕ → List Float → ℕ → Step (List Float)
-newton f n a = after (λ _. newtonStep f n a) (newtonStart f n a)
+  unfoldable pub newtonStart : List Float → List Float
+  newtonStart a = diagonalM n (newtonScale a)
 
-unfoldable pub newtonRoot : Format → ℕ → List Float → Result (List Float)
-newtonRoot f n a = ended (newton f n a 100)
+  -- after i passes
+  unfoldable pub newton : List Float → ℕ → Step (List Float)
+  newton a = after (λ _. newtonStep a) (newtonStart a)
 
--- ---- Denman and Beavers: (y, z) becomes ((y + 1 / z) / 2, (z + 1 / y) / 2). y goes to the root, z to its inverse; the test is y's.
+  -- the root of a, after at most 100 passes
+  unfoldable pub newtonRoot : List Float → Result (List Float)
+  newtonRoot a = ended (newton a passLimit)
+
+-- ---- Denman and Beavers: (y, z) becomes ((y + 1 / z) / 2, (z + 1 / y) / 2). y goes to the root, z to its inverse; the test is that of y.
 
 pub record Pair : Type 0 where
   pub y : List Float
   pub z : List Float
 
--- given 1 / z and 1 / y
-unfoldable pub denmanBeaversNext : Format → ℕ → Pair → Option (List Float) → Option (List Float) → Step Pair
-denmanBeaversNext f n p none u = failed
-denmanBeaversNext f n p (some v) none = failed
-denmanBeaversNext f n p (some v) (some u) =
-    verdict (lt (normOfDifference f n (p .y) (meanM f n (p .y) v)) (rootTolerance f)) (record { y = meanM f n (p .y) v; z = meanM f n (p .z) u })
+module _ (f : Format) (n : ℕ) where
+  -- given v = 1 / z and u = 1 / y, or nothing where LU refuses z or y
+  unfoldable pub denmanBeaversNext : Pair → Option (List Float) → Option (List Float) → Step Pair
+  denmanBeaversNext p none u = failed
+  denmanBeaversNext p (some v) none = failed
+  denmanBeaversNext p (some v) (some u) =
+      verdict (lt (normOfDifference f n (p .y) (meanM f n (p .y) v)) (rootTolerance f)) (record { y = meanM f n (p .y) v; z = meanM f n (p .z) u })
 
--- z is inverted first
-unfoldable pub denmanBeaversStep : Format → ℕ → Pair → Step Pair
-denmanBeaversStep f n p = denmanBeaversNext f n p (inverse f n (p .z)) (inverse f n (p .y))
+  -- a pass; z is inverted first
+  unfoldable pub denmanBeaversStep : Pair → Step Pair
+  denmanBeaversStep p = denmanBeaversNext p (inverse f n (p .z)) (inverse f n (p .y))
 
-unfoldable pub denmanBeavers : Format → ℕ → List Float → ℕ → Step Pair
-denmanBeavers f n a = after (λ _. denmanBeaversStep f n) (record { y = a; z = identityM n })
+  -- after i passes; the start is (a, I)
+  unfoldable pub denmanBeavers : List Float → ℕ → Step Pair
+  denmanBeavers a = after (λ _. denmanBeaversStep) (record { y = a; z = identityM n })
 
--- sqrtm: at order 1 the root of the number
-unfoldable pub squareRoot : Format → ℕ → List Float → Result (List Float)
-squareRoot f n a = cond (eqb n 1) (done 0 (sqrtOf f (item a 0) ∷ [])) (ended (denmanBeavers f n a 100) >>= λ p. done 0 (p .y))
+  -- sqrtm: at order 1 the root of the number, and otherwise y after at most 100 passes
+  unfoldable pub squareRoot : List Float → Result (List Float)
+  squareRoot a = cond (eqb n 1) (done 0 (sqrtOf f (item a 0) ∷ [])) (ended (denmanBeavers a passLimit) >>= λ p. done 0 (p .y))

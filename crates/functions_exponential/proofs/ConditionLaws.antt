@@ -8,7 +8,7 @@ use lib.Dec.{ltb}
 use lib.ListN.{length}
 use lib.IntN.{pos}
 use lib.Ieee.{Float, Format, binary64, emax, hid, div, ofBits, ofInt}
-use Rattle.arithmetic_floats.specs.Float.{+zero, one, constant}
+use Rattle.arithmetic_floats.specs.Float.{one, constant}
 use Rattle.arithmetic_floats.specs.Root.{sqrtOf}
 use Rattle.arithmetic_floats.proofs.Constants.{one-bits}
 use Rattle.arithmetic_floats.proofs.Widths.{root-once}
@@ -16,10 +16,10 @@ use Rattle.arithmetic_matrices.specs.Matrix.{part}
 use Rattle.arithmetic_matrices.specs.Product.{diagonalM}
 use Rattle.arithmetic_matrices.specs.Norm.{frobenius}
 use Rattle.arithmetic_matrices.specs.Workspace.{Room, store, cleared, Only}
-use Rattle.arithmetic_questions.specs.Result.{Result, refused, done, outcome, exit, workspace}
+use Rattle.arithmetic_questions.specs.Result.{Result, refused, done, outcome, exit}
 use Rattle.arithmetic_questions.specs.Questions.{Call, Profile, asked, answer}
 use Rattle.arithmetic_questions.specs.Answers.{numbered, reported, found}
-use Rattle.arithmetic_questions.specs.Outputs.{Both}
+use Rattle.arithmetic_questions.specs.Outputs.{WorkspaceLeft, Both}
 use Rattle.arithmetic_questions.specs.declared.answer.Outcome.{Outcome}
 use Rattle.arithmetic_questions.specs.declared.answer.Outcome.the-variants.{Done, Refused}
 use Rattle.arithmetic_questions.specs.declared.answer.Question.{Question}
@@ -33,8 +33,8 @@ use Rattle.arithmetic_questions.proofs.QuestionLaws.{as-refused}
 use Rattle.arithmetic_questions.proofs.AnswerLaws.{answer-passed, outcome-no, exit-no}
 use Rattle.arithmetic_questions.proofs.OutputLaws.{Late, late-where}
 use Rattle.functions_definitions.specs.Derivatives.{Condition, unitDirection, conditionOf, conditioned, condExpM, frechetExpM}
-use Rattle.functions_exponential.specs.Kernels.{Written, Rated, rated}
-use Rattle.functions_definitions.specs.Conditions.{Conditioned}
+use Rattle.functions_exponential.specs.Kernels.{Written, rated}
+use Rattle.functions_definitions.specs.Conditions.{noCondition, Conditioned}
 
 -- the entries of the unit direction, as the code has them: v is the order, r its root
 pub unit-number : (f : Format) (n : ℕ) (v r : Float) → n ≤ 16 → v ≡ ofInt f (pos n) → r ≡ sqrtOf f v → div f (ofBits f (emax f * hid f)) r ≡ div f one (constant f (sqrtOf binary64 (ofInt binary64 (pos n))))
@@ -48,52 +48,46 @@ unit-read x n w w1 out r size e f =
 
 -- ---- the answer, from an outcome
 
-pub answered-done : (c : Condition) (given : Outcome) (s : ℕ) (p q r : Float) → given ≡ Done s → Rated c p q r → Conditioned (rated c (reported given)) (Done s) p q r
+pub answered-done : (c z : Condition) (given : Outcome) (s : ℕ) → given ≡ Done s → z ≡ c → Conditioned (rated c (reported given)) (Done s) z
 unfolding outcome exit
-answered-done c given s p q r e R = rw e (record { outcome = refl; ratios = R .ratios; derivatives = R .derivatives; exponentials = R .exponentials })
+answered-done c z given s e h = rw e (record { outcome = refl; condition = h })
 
-pub answered-none : (c : Condition) (given o : Outcome) (y : Refusal) (p q r : Float) → given ≡ Refused y → reported o ≡ numbered y → p ≡ +zero → q ≡ +zero → r ≡ +zero
-    → Conditioned (rated c (reported given)) o p q r
+pub answered-none : (c z : Condition) (given o : Outcome) (y : Refusal) → given ≡ Refused y → reported o ≡ numbered y → z ≡ noCondition → Conditioned (rated c (reported given)) o z
 unfolding outcome exit
-answered-none c given o y p q r e k ep eq er =
+answered-none c z given o y e k h =
     let (i, j, l, n) = as-refused y in
-    rw (e, n) (record { outcome = k ∙ n; ratios = ep; derivatives = eq; exponentials = er })
+    rw (e, n) (record { outcome = k ∙ n; condition = h })
 
 -- ---- the unit direction, the derivative in it, and the answer
 
-module _ (f : Format) (n : ℕ) (small : n ≤ 16) (a w w1 w2 e x x′ d d′ : List Float) (given o : Outcome) (p q r : Float) (e1 : w1 ≡ store w 0 (unitDirection f n)) (ee : e ≡ unitDirection f n)
+module _ (f : Format) (n : ℕ) (small : n ≤ 16) (a w w1 w2 e x x′ d d′ : List Float) (given : Outcome) (e1 : w1 ≡ store w 0 (unitDirection f n)) (ee : e ≡ unitDirection f n)
     (W : Written (frechetExpM f n a e) given x x′ d d′ w1 w2) where
   pub condition-only : Only (λ s. ltb s 32) w w2
   unfolding unitDirection
   condition-only = only-trans (rw e1 (only-store (λ s. ltb s 32) w 0 _ refl (rw length-diagonalM (square-le n small)))) (W .only)
 
-  pub condition-steps : Conditioned (rated (conditionOf f (frobenius f n x′) (frobenius f n d′)) (reported given)) o p q r → Conditioned (condExpM f n a) o p q r
+  pub condition-steps : (o : Outcome) (c : Condition) → Conditioned (rated (conditionOf f (frobenius f n x′) (frobenius f n d′)) (reported given)) o c → Conditioned (condExpM f n a) o c
   unfolding condExpM conditioned outcome exit
-  condition-steps C = go (frechetExpM f n a (unitDirection f n)) (W′ .outcome) (W′ .value) (W′ .derivative)
+  condition-steps o c C = go (frechetExpM f n a (unitDirection f n)) (W′ .outcome) (W′ .value) (W′ .derivative)
     where
       W′ : Written (frechetExpM f n a (unitDirection f n)) given x x′ d d′ w1 w2
       W′ = rw ee at W
 
-      go : (z : Result Both) → reported given ≡ outcome z → x′ ≡ exit (λ (b : Both). b .value) z x → d′ ≡ exit (λ (b : Both). b .derivative) z d → Conditioned (conditioned f n z) o p q r
+      go : (z : Result Both) → reported given ≡ outcome z → x′ ≡ exit (λ (b : Both). b .value) z x → d′ ≡ exit (λ (b : Both). b .derivative) z d → Conditioned (conditioned f n z) o c
       go (refused k i j) t u v = rw t at C
       go (done s b) t u v = rw (t, u, v) at C
 
 -- ---- the call
 
-module _ (P : Profile) (c : Call) (q : Question) (h : found q ≡ asked P c) (o : Outcome) (x : Result Condition) (p d e : Float) where
-  -- a question refuses: +0 three times
-  pub condition-refused : (y : Refusal) → q ≡ No y → reported o ≡ numbered y → p ≡ +zero → d ≡ +zero → e ≡ +zero → Conditioned (answer P c x) o p d e
-  condition-refused y t k ep ed ee = record {
-    outcome = k ∙ sym (outcome-no P c x q h y t);
-    ratios = ep ∙ sym (exit-no P c x q h y t (λ (z : Condition). z .ratio) +zero);
-    derivatives = ed ∙ sym (exit-no P c x q h y t (λ (z : Condition). z .derivativeNorm) +zero);
-    exponentials = ee ∙ sym (exit-no P c x q h y t (λ (z : Condition). z .exponentialNorm) +zero);
-  }
+module _ (P : Profile) (c : Call) (q : Question) (h : found q ≡ asked P c) (x : Result Condition) where
+  -- a question refuses
+  pub condition-refused : (o : Outcome) (z : Condition) (y : Refusal) → q ≡ No y → reported o ≡ numbered y → z ≡ noCondition → Conditioned (answer P c x) o z
+  condition-refused o z y t k e = record { outcome = k ∙ sym (outcome-no P c x q h y t); condition = e ∙ sym (exit-no P c x q h y t (λ v. v) noCondition) }
 
   -- none does
-  pub condition-passed : q ≡ Passed → Conditioned x o p d e → Conditioned (answer P c x) o p d e
-  condition-passed t C = rw (answer-passed P c x q h t) C
+  pub condition-passed : (o : Outcome) (z : Condition) → q ≡ Passed → Conditioned x o z → Conditioned (answer P c x) o z
+  condition-passed o z t C = rw (answer-passed P c x q h t) C
 
   pub workspace-passed : (clears : Bool) (w w1 w2 : List Float) → q ≡ Passed → Late x → 8192 ≤ length w → Only (λ s. ltb s 32) w w1 → w2 ≡ cond clears (cleared w1) w1
-      → cond clears w2 (workspace (answer P c x) w2) ≡ workspace (answer P c x) w
+      → WorkspaceLeft clears (answer P c x) w w2
   workspace-passed clears w w1 w2 t l room only v = rw (answer-passed P c x q h t) (late-where clears x w w1 w2 l v (cleared-only w w1 room only))

@@ -13,14 +13,14 @@ use Rattle.lu_factoring.specs.declared.LuOutcome.{LuOutcome}
 use Rattle.lu_factoring.specs.declared.LuOutcome.the-variants.{Factored, Singular}
 use Rattle.arithmetic_floats.specs.Float.{+zero, inversePowerOfTwo}
 use Rattle.arithmetic_matrices.specs.Matrix.{at, item, part}
-use Rattle.arithmetic_matrices.specs.Product.{zeroM, dot, accumulateM, identityM, scaleM, squared, mulM}
+use Rattle.arithmetic_matrices.specs.Product.{zeroM, dot, addMultipleM, identityM, timesM, squared, mulM}
 use Rattle.arithmetic_matrices.specs.Workspace.{Room, slot, store, member, Only}
 use Rattle.arithmetic_matrices.specs.Kernels.{Squared}
 use Rattle.arithmetic_matrices.proofs.MatrixLaws.{grid-is, at-grid, square-le}
 use Rattle.arithmetic_matrices.proofs.PartLaws.{take-part, take-rest}
-use Rattle.arithmetic_matrices.proofs.ProductLaws.{length-zeroM, at-tab, length-accumulateM, dot-more}
+use Rattle.arithmetic_matrices.proofs.ProductLaws.{length-zeroM, at-tab, length-addMultipleM, dot-more, product-comm}
 use Rattle.arithmetic_matrices.proofs.Slots.{only-trans, only-more, length-slot, slot-only, only-refl}
-use Rattle.arithmetic_matrices.proofs.States.{held, Held, listed, State, start, step-identity, step-zero, step-accumulate, step-call, state-listed, holds-as, held-at, member-among, step-scale, step-copy-in, step-copy, step-mult, Holds}
+use Rattle.arithmetic_matrices.proofs.States.{held, Held, listed, State, start, step-identity, step-zero, step-accumulate, step-call, state-listed, holds-as, held-at, member-among, step-times, step-copy-in, step-copy, step-mult, Holds}
 use Rattle.lu_factoring.specs.Lu.{luOutcome}
 use Rattle.lu_factoring.specs.Solve.{standIn, quotient}
 use Rattle.lu_factoring.specs.Kernels.{divided}
@@ -52,13 +52,13 @@ pub combination-none : (f : Format) (n : ℕ) (c : ℕ → Float) (a : List Floa
 unfolding combinationTo zeroM dot
 combination-none f n c a = grid-is n n _ (zeroM n) (length-zeroM n) (λ i j p q. at-tab n (λ k. +zero) i j p q)
 
-pub combination-more : (f : Format) (n : ℕ) (c : ℕ → Float) (a : List Float) (k : ℕ) → accumulateM f n (c k) (power f n a k) (combinationTo f n c a k) ≡ combinationTo f n c a (k + 1)
-unfolding combinationTo accumulateM at
+pub combination-more : (f : Format) (n : ℕ) (c : ℕ → Float) (a : List Float) (k : ℕ) → addMultipleM f n (c k) (power f n a k) (combinationTo f n c a k) ≡ combinationTo f n c a (k + 1)
+unfolding combinationTo addMultipleM at
 combination-more f n c a k =
-    grid-is n n _ (accumulateM f n (c k) (power f n a k) (combinationTo f n c a k)) (length-accumulateM f n (c k) (power f n a k) (combinationTo f n c a k))
+    grid-is n n _ (addMultipleM f n (c k) (power f n a k) (combinationTo f n c a k)) (length-addMultipleM f n (c k) (power f n a k) (combinationTo f n c a k))
     (λ i j p q.
-    at-tab n (λ m. add f (item (combinationTo f n c a k) m) (mul f (c k) (item (power f n a k) m))) i j p q
-    ∙ ap (λ (x : Float). add f x (mul f (c k) (at n (power f n a k) i j))) (at-grid n n (λ i j. dot f k c (λ m. at n (power f n a m) i j)) i j p q)
+    at-tab n (λ m. add f (item (combinationTo f n c a k) m) (mul f (item (power f n a k) m) (c k))) i j p q
+    ∙ (λ t. add f (at-grid n n (λ i j. dot f k c (λ m. at n (power f n a m) i j)) i j p q t) (product-comm f (at n (power f n a k) i j) (c k) t))
     ∙ sym (dot-more f k c (λ m. at n (power f n a m) i j)))
 
 -- the part that `quotient_or_numerator` returns
@@ -121,7 +121,7 @@ module _ (f : Format) (n : ℕ) (w₀ : List Float) (r : Room n w₀) where
       state-listed (sums f n a 0) s3 (s3 .holds 0, (s3 .holds 1, (holds-as (s3 .holds 2) (combination-none f n (coefficient f) a), (holds-as (s3 .holds 3) (combination-none f n (flipped f) a), tt))))
 
   pub sums-more : (a : List Float) (k : ℕ) (w w1 w2 w3 : List Float) (c d : Float) → State summing w₀ w (listed (sums f n a k)) → c ≡ coefficient f k → d ≡ flip k c
-      → w1 ≡ store w 2 (accumulateM f n c (slot n w 1) (slot n w 2)) → w2 ≡ store w1 3 (accumulateM f n d (slot n w1 1) (slot n w1 3)) → Raised f n k w2 w3 → State summing w₀ w3 (listed (sums f n a (k + 1)))
+      → w1 ≡ store w 2 (addMultipleM f n c (slot n w 1) (slot n w 2)) → w2 ≡ store w1 3 (addMultipleM f n d (slot n w1 1) (slot n w1 3)) → Raised f n k w2 w3 → State summing w₀ w3 (listed (sums f n a (k + 1)))
   sums-more a k w w1 w2 w3 c d H ec ed e1 e2 R =
       let s1 = step-accumulate n (r .order) f c 2 1 H e1 refl refl refl refl in
       let s2 = step-accumulate n (r .order) f d 3 1 s1 e2 refl refl refl refl in
@@ -129,8 +129,8 @@ module _ (f : Format) (n : ℕ) (w₀ : List Float) (r : Room n w₀) where
       let next : slot n w3 1 ≡ power f n a (k + 1) = R .raised ∙ (λ i. nextPower f n k (held-at 0 n s2 refl i) (held-at 1 n s2 refl i)) ∙ power-more f n a k in
       let ef : d ≡ flipped f k = unfold flipped in ed ∙ ap (flip k) ec in
       let h1 : Holds w3 1 (held n (power f n a (k + 1))) = record { sized = ap length (sym next) ∙ length-slot n w3 1; within = omega (arith, square-le n (r .order)); reads = next } in
-      let h2 = holds-as (s3 .holds 2) (ap (λ (x : Float). accumulateM f n x (power f n a k) (combinationTo f n (coefficient f) a k)) ec ∙ combination-more f n (coefficient f) a k) in
-      let h3 = holds-as (s3 .holds 3) (ap (λ (x : Float). accumulateM f n x (power f n a k) (combinationTo f n (flipped f) a k)) ef ∙ combination-more f n (flipped f) a k) in
+      let h2 = holds-as (s3 .holds 2) (ap (λ (x : Float). addMultipleM f n x (power f n a k) (combinationTo f n (coefficient f) a k)) ec ∙ combination-more f n (coefficient f) a k) in
+      let h3 = holds-as (s3 .holds 3) (ap (λ (x : Float). addMultipleM f n x (power f n a k) (combinationTo f n (flipped f) a k)) ef ∙ combination-more f n (flipped f) a k) in
       state-listed (sums f n a (k + 1)) s3 (s3 .holds 0, (h1, (h2, (h3, tt))))
 
   pub sums-all : (w : List Float) → State summing w₀ w (listed (sums f n (slot n w₀ 0) 14)) → Summed f n w₀ w
@@ -184,10 +184,10 @@ module _ (f : Format) (n : ℕ) (w₀ : List Float) (r : Room n w₀) where
       record { result = held-at 0 n s3 refl ∙ x; only = s3 .only }
 
   -- scaling, the quotient, and the squarings
-  pub exponential-steps : (s : ℕ) (w1 w2 w3 : List Float) → w1 ≡ store w₀ 0 (scaleM f n (inversePowerOfTwo s) (slot n w₀ 0)) → Approximated f n w1 w2 → Squared f n w2 0 4 s w3 → Exponentiated f n s w₀ w3
+  pub exponential-steps : (s : ℕ) (w1 w2 w3 : List Float) → w1 ≡ store w₀ 0 (timesM f n (inversePowerOfTwo s) (slot n w₀ 0)) → Approximated f n w1 w2 → Squared f n w2 0 4 s w3 → Exponentiated f n s w₀ w3
   unfolding exponential scaled
   exponential-steps s w1 w2 w3 e1 P Q =
-      let s1 = step-scale n (r .order) f (inversePowerOfTwo s) 0 (start all n r) e1 refl refl refl in
+      let s1 = step-times n (r .order) f (inversePowerOfTwo s) 0 0 (start all n r) e1 refl refl refl in
       record {
         result = Q .power ∙ ap (squared f n s) (P .result ∙ ap (pade f n) (held-at 0 n s1 refl));
         only = only-trans (s1 .only) (only-trans (P .only) (only-more (member-among all (0 ∷ 4 ∷ []) refl) (Q .only)));

@@ -5,6 +5,7 @@ use mathlib.Core.List.{List, [], _∷_}
 use mathlib.Core.Path.{_≡_}
 use lib.Dec.{eqb, ltb}
 use lib.Ieee.{Float, Format}
+use Rattle.arithmetic_matrices.specs.Matrix.{at}
 use Rattle.arithmetic_matrices.specs.Product.{mulM}
 use Rattle.arithmetic_matrices.specs.Workspace.{slot, member, Only}
 use Rattle.lu_factoring.specs.Lu.{luOutcome}
@@ -45,6 +46,10 @@ pub record Exponentiated (f : Format) (n s : ℕ) (w w′ : List Float) : Type 0
   pub result : slot n w′ 0 ≡ exponential f n s (slot n w 0)
   pub only : Only (member (0 ∷ 1 ∷ 2 ∷ 3 ∷ 4 ∷ 5 ∷ [])) w w′
 
+-- row i of `quarter`
+unfoldable pub quarterRow : ℕ → ℕ → List Float → ℕ → ℕ → Float
+quarterRow n c b i j = at (n + n) b i (c + j)
+
 -- the upper quarters of the matrix of order 2 n in slot 0 are written where the outcome `given` is done
 pub record Quartered (n : ℕ) (given o : Outcome) (w first first′ second second′ : List Float) : Type 0 where
   pub outcome : reported o ≡ reported given
@@ -57,12 +62,6 @@ pub record Written (x : Result Both) (o : Outcome) (first first′ second second
   pub value : first′ ≡ exit (λ (b : Both). b .value) x first
   pub derivative : second′ ≡ exit (λ (b : Both). b .derivative) x second
   pub only : Only (λ s. ltb s 32) w w′
-
--- three numbers that are those of c
-pub record Rated (c : Condition) (ratio derivative exponential : Float) : Type 0 where
-  pub ratios : ratio ≡ c .ratio
-  pub derivatives : derivative ≡ c .derivativeNorm
-  pub exponentials : exponential ≡ c .exponentialNorm
 
 -- c with an outcome that was reported
 abbrev pub rated : Condition → Result (Unit {0}) → Result Condition

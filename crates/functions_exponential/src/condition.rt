@@ -10,9 +10,10 @@ ghost use Rattle.arithmetic_matrices.specs.Norm.{frobenius};
 ghost use Rattle.arithmetic_matrices.specs.Workspace.{Room, Only, store};
 ghost use Rattle.arithmetic_questions.specs.Answers.{numbered, reported};
 ghost use Rattle.arithmetic_questions.specs.Result.{workspace};
+ghost use Rattle.arithmetic_questions.specs.Outputs.{WorkspaceLeft};
 ghost use Rattle.functions_definitions.specs.Derivatives.{unitDirection, conditionOf, condExpM};
-ghost use Rattle.functions_exponential.specs.Kernels.{Rated, rated};
-ghost use Rattle.functions_definitions.specs.Conditions.{Conditioned};
+ghost use Rattle.functions_exponential.specs.Kernels.{rated};
+ghost use Rattle.functions_definitions.specs.Conditions.{noCondition, Conditioned};
 ghost use Rattle.functions_definitions.specs.Calls.{condExpm};
 use crate::frechet::frechet_expm_in;
 use arithmetic_floats::float::of_small;
@@ -30,16 +31,14 @@ use arithmetic_questions::question::ask_cond_expm;
 // The ratio of the norms, and the Frobenius norms of the derivative and of the exponential.
 pub struct Condition {
     pub ratio: f64,
-    pub derivative: f64,
-    pub exponential: f64,
+    pub derivative_norm: f64,
+    pub exponential_norm: f64,
 }
 
 // The answer of `cond_expm`; +0 three times beside a refusal.
 pub struct ConditionAnswer {
     pub outcome: Outcome,
-    pub ratio: f64,
-    pub derivative: f64,
-    pub exponential: f64,
+    pub condition: Condition,
 }
 
 // The direction I / root of n is written to out, and to slot 0.
@@ -63,42 +62,43 @@ fn ratio_of(x: f64, d: f64) -> f64
 // The condition, from the exponential x and the derivative d of order n.
 fn condition_of(x: &[f64], d: &[f64], n: usize) -> Condition
     requires { ⌜ (length (now x) ≡ n * n) × (length (now d) ≡ n * n) × (n ≤ 8) ⌝ }
-    ensures { λ r. ⌜ Rated (conditionOf binary64 (frobenius binary64 n (now (x .entry))) (frobenius binary64 n (now (d .entry)))) (r .ratio) (r .derivative) (r .exponential) ⌝ }
+    ensures { λ r. ⌜ record { ratio = r .ratio; derivativeNorm = r .«derivative_norm»; exponentialNorm = r .«exponential_norm» } ≡ conditionOf binary64 (frobenius binary64 n (now (x .entry))) (frobenius binary64 n (now (d .entry))) ⌝ }
 {
-    let exponential = sqrt(sum_of_squares(x, 0, n * n));
-    let derivative = sqrt(sum_of_squares(d, 0, n * n));
+    let exponential_norm = sqrt(sum_of_squares(x, 0, n * n));
+    let derivative_norm = sqrt(sum_of_squares(d, 0, n * n));
     Condition {
-        ratio: ratio_of(exponential, derivative),
-        derivative,
-        exponential,
+        ratio: ratio_of(exponential_norm, derivative_norm),
+        derivative_norm,
+        exponential_norm,
     }
 }
 
 // The answer that carries a refusal.
 fn refused_condition(why: Refusal) -> ConditionAnswer
-    ensures { λ r. ⌜ (reported (r .outcome) ≡ numbered why) × (r .ratio ≡ +zero) × (r .derivative ≡ +zero) × (r .exponential ≡ +zero) ⌝ }
+    ensures { λ r. ⌜ (reported (r .outcome) ≡ numbered why) × (record { ratio = r .condition .ratio; derivativeNorm = r .condition .«derivative_norm»; exponentialNorm = r .condition .«exponential_norm» } ≡ noCondition) ⌝ }
 {
+    let condition = Condition {
+        ratio: 0.0,
+        derivative_norm: 0.0,
+        exponential_norm: 0.0,
+    };
     ConditionAnswer {
         outcome: Outcome::Refused(why),
-        ratio: 0.0,
-        derivative: 0.0,
-        exponential: 0.0,
+        condition,
     }
 }
 
 // The answer, from the outcome and, where that is done, the exponential x and the derivative d of order n.
 fn condition_answer(outcome: Outcome, x: &[f64], d: &[f64], n: usize) -> ConditionAnswer
     requires { ⌜ (length (now x) ≡ n * n) × (length (now d) ≡ n * n) × (n ≤ 8) ⌝ }
-    ensures { λ r. ⌜ Conditioned (rated (conditionOf binary64 (frobenius binary64 n (now (x .entry))) (frobenius binary64 n (now (d .entry)))) (reported outcome)) (r .outcome) (r .ratio) (r .derivative) (r .exponential) ⌝ }
+    ensures { λ r. ⌜ Conditioned (rated (conditionOf binary64 (frobenius binary64 n (now (x .entry))) (frobenius binary64 n (now (d .entry)))) (reported outcome)) (r .outcome) (record { ratio = r .condition .ratio; derivativeNorm = r .condition .«derivative_norm»; exponentialNorm = r .condition .«exponential_norm» }) ⌝ }
 {
     match outcome {
         Outcome::Done { halvings } => {
             let condition = condition_of(x, d, n);
             ConditionAnswer {
                 outcome: Outcome::Done { halvings },
-                ratio: condition.ratio,
-                derivative: condition.derivative,
-                exponential: condition.exponential,
+                condition,
             }
         }
         Outcome::Refused(why) => refused_condition(why),
@@ -116,7 +116,7 @@ fn cond_expm_in(
 ) -> ConditionAnswer
     requires { ⌜ Room (n + n) (now w) ⌝ }
     requires { ⌜ (n ≤ 8) × (length (now a) ≡ n * n) × (length (now e) ≡ n * n) × (length (now x) ≡ n * n) × (length (now d) ≡ n * n) ⌝ }
-    ensures { λ r. ⌜ Conditioned (condExpM binary64 n (now (a .entry))) (r .outcome) (r .ratio) (r .derivative) (r .exponential) ⌝ }
+    ensures { λ r. ⌜ Conditioned (condExpM binary64 n (now (a .entry))) (r .outcome) (record { ratio = r .condition .ratio; derivativeNorm = r .condition .«derivative_norm»; exponentialNorm = r .condition .«exponential_norm» }) ⌝ }
     ensures { λ _. ⌜ Only (λ s. ltb s 32) (now (w .entry)) (now (w .exit)) ⌝ }
 {
     unit_direction(w, n, e);
@@ -128,7 +128,7 @@ fn cond_expm_in(
 fn cond_expm_with_room(n: usize, a: &[f64], w: &mut [f64]) -> ConditionAnswer
     requires { ⌜ Room (n + n) (now w) ⌝ }
     requires { ⌜ (n ≤ 8) × (length (now a) ≡ n * n) ⌝ }
-    ensures { λ r. ⌜ Conditioned (condExpM binary64 n (now (a .entry))) (r .outcome) (r .ratio) (r .derivative) (r .exponential) ⌝ }
+    ensures { λ r. ⌜ Conditioned (condExpM binary64 n (now (a .entry))) (r .outcome) (record { ratio = r .condition .ratio; derivativeNorm = r .condition .«derivative_norm»; exponentialNorm = r .condition .«exponential_norm» }) ⌝ }
     ensures { λ _. ⌜ Only (λ s. ltb s 32) (now (w .entry)) (now (w .exit)) ⌝ }
 {
     let count = n * n;
@@ -146,8 +146,8 @@ pub fn cond_expm_with(
     w: &mut [f64],
     clears: bool,
 ) -> ConditionAnswer
-    ensures { λ r. ⌜ Conditioned (condExpm binary64 rows columns (now (a .entry)) (length (now (w .entry)))) (r .outcome) (r .ratio) (r .derivative) (r .exponential) ⌝ }
-    ensures { λ _. ⌜ cond clears (now (w .exit)) (workspace (condExpm binary64 rows columns (now (a .entry)) (length (now (w .entry)))) (now (w .exit))) ≡ workspace (condExpm binary64 rows columns (now (a .entry)) (length (now (w .entry)))) (now (w .entry)) ⌝ }
+    ensures { λ r. ⌜ Conditioned (condExpm binary64 rows columns (now (a .entry)) (length (now (w .entry)))) (r .outcome) (record { ratio = r .condition .ratio; derivativeNorm = r .condition .«derivative_norm»; exponentialNorm = r .condition .«exponential_norm» }) ⌝ }
+    ensures { λ _. ⌜ WorkspaceLeft clears (condExpm binary64 rows columns (now (a .entry)) (length (now (w .entry)))) (now (w .entry)) (now (w .exit)) ⌝ }
 {
     match ask_cond_expm(rows, columns, a, w.len()) {
         Question::No(why) => refused_condition(why),
@@ -161,7 +161,7 @@ pub fn cond_expm_with(
 
 // The condition of the exponential at the matrix a.
 pub fn cond_expm(rows: usize, columns: usize, a: &[f64], w: &mut [f64]) -> ConditionAnswer
-    ensures { λ r. ⌜ Conditioned (condExpm binary64 rows columns (now (a .entry)) (length (now (w .entry)))) (r .outcome) (r .ratio) (r .derivative) (r .exponential) ⌝ }
+    ensures { λ r. ⌜ Conditioned (condExpm binary64 rows columns (now (a .entry)) (length (now (w .entry)))) (r .outcome) (record { ratio = r .condition .ratio; derivativeNorm = r .condition .«derivative_norm»; exponentialNorm = r .condition .«exponential_norm» }) ⌝ }
     ensures { λ _. ⌜ now (w .exit) ≡ workspace (condExpm binary64 rows columns (now (a .entry)) (length (now (w .entry)))) (now (w .entry)) ⌝ }
 {
     cond_expm_with(rows, columns, a, w, true)

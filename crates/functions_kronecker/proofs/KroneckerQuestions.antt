@@ -6,12 +6,12 @@ use lib.Dec.{eqb}
 use lib.ListN.{length}
 use lib.Ieee.{Float}
 use borrow.Author.Tests.{eqb-true}
-use Rattle.arithmetic_questions.specs.Result.{_>>=_, ask, firstNo}
-use Rattle.arithmetic_questions.specs.Questions.{Call, binary, companionFits, limited, atMost, exactly, hasCompanion, hasPivots, outputLength, lengths, directed, pivotsNamed, shapeQuestions, numberQuestions, asked, ofKron, ofKronSum}
+use Rattle.arithmetic_questions.specs.Result.{Found, _>>=_, ask, firstNo}
+use Rattle.arithmetic_questions.specs.Questions.{Call, binary, noRoom, atMost, exactly, shapeQuestions, numberQuestions, asked, ofKron, ofKronSum}
 use Rattle.arithmetic_questions.specs.Answers.{found}
 use Rattle.arithmetic_questions.specs.declared.answer.Question.{Question}
 use Rattle.arithmetic_questions.specs.declared.answer.Question.the-variants.{Passed}
-use Rattle.arithmetic_questions.proofs.QuestionLaws.{Found, Yes, Each, each-parts, told, all-yes, ask-yes, at-most-yes, exactly-yes}
+use Rattle.arithmetic_questions.proofs.QuestionLaws.{Yes, Each, each-parts, told, all-yes, ask-yes, at-most-yes, exactly-yes}
 
 -- The sizes that both functions accept.
 pub record Sized (m n p q : ℕ) : Type 0 where
@@ -54,14 +54,14 @@ module _ (m n : ℕ) (a : List Float) (p q : ℕ) (b : List Float) (out : ℕ) w
   slices = exactly (m * n) (length a) ∷ exactly (p * q) (length b) ∷ exactly ((m * p) * (n * q)) out ∷ []
 
   abbrev pub call : Call
-  call = binary m n a p q b (out ∷ []) 0
+  call = binary m n a p q b (out ∷ []) noRoom
 
   pub asked-kron : asked ofKron call ≡ firstNo (products m n p q ++ slices)
-  unfolding firstNo _>>=_ asked shapeQuestions numberQuestions companionFits limited lengths hasCompanion hasPivots outputLength directed pivotsNamed
+  unfolding firstNo _>>=_ asked shapeQuestions numberQuestions
   asked-kron = refl
 
   pub asked-kron-sum : asked ofKronSum call ≡ firstNo (squares m n p q ++ (products m n p q ++ slices))
-  unfolding firstNo _>>=_ asked shapeQuestions numberQuestions companionFits limited lengths hasCompanion hasPivots outputLength directed pivotsNamed
+  unfolding firstNo _>>=_ asked shapeQuestions numberQuestions
   asked-kron-sum = refl
 
   fitting : Each Yes (products m n p q ++ slices) → Fitting m n a p q b out

@@ -3,7 +3,7 @@ use Prim.Native.Nat.{ℕ}
 use mathlib.Core.Path.{_≡_, refl, sym, ap, _∙_}
 use mathlib.Core.List.{List, [], _∷_}
 use lib.Ieee.{Float, Format}
-use Rattle.arithmetic_matrices.specs.Product.{accumulateM, differenceQuotientM}
+use Rattle.arithmetic_matrices.specs.Product.{addMultipleM, differenceQuotientM}
 use Rattle.arithmetic_matrices.specs.Workspace.{Room, slot, store, member, Only}
 use Rattle.arithmetic_questions.specs.Result.{done, _>>=_, outcome, exit}
 use Rattle.arithmetic_questions.specs.Kernels.{Replaced, ReplacedBoth}
@@ -37,21 +37,21 @@ module _ (f : Format) (n : ℕ) (w₀ : List Float) (r : Room n w₀) where
 
   -- ---- the second logarithm
 
-  module _ (w1 w2 w3 w4 : List Float) (h : Float) (o : Outcome) (e1 : w1 ≡ store w₀ 6 (slot n w₀ 0)) (eh : h ≡ logStep f) (e2 : w2 ≡ store w1 5 (accumulateM f n h (slot n w1 4) (slot n w1 5)))
+  module _ (w1 w2 w3 w4 : List Float) (h : Float) (o : Outcome) (e1 : w1 ≡ store w₀ 6 (slot n w₀ 0)) (eh : h ≡ logStep f) (e2 : w2 ≡ store w1 5 (addMultipleM f n h (slot n w1 4) (slot n w1 5)))
       (e3 : w3 ≡ store w2 0 (slot n w2 5)) (R : Replaced used n (logarithm f n (slot n w3 0)) o w3 w4) where
     -- the matrix moved a step; the first logarithm is kept
-    shifted : (slot n w3 0 ≡ accumulateM f n (logStep f) (slot n w₀ 4) (slot n w₀ 5)) × (slot n w4 6 ≡ slot n w₀ 0) × Only (member moved) w₀ w4
+    shifted : (slot n w3 0 ≡ addMultipleM f n (logStep f) (slot n w₀ 4) (slot n w₀ 5)) × (slot n w4 6 ≡ slot n w₀ 0) × Only (member moved) w₀ w4
     shifted =
         let s1 = step-copy n (r .order) 0 6 (start (member moved) n r) e1 refl refl refl in
         let s2 = step-accumulate n (r .order) f h 5 4 s1 e2 refl refl refl refl in
         let s3 = step-copy n (r .order) 5 0 s2 e3 refl refl refl in
         let s4 = step-call used s3 (R .only) (member-among (member moved) used refl) in
-        (held-at 0 n s3 refl ∙ ap (λ (c : Float). accumulateM f n c (slot n w₀ 4) (slot n w₀ 5)) eh, held-at 6 n s4 refl, s4 .only)
+        (held-at 0 n s3 refl ∙ ap (λ (c : Float). addMultipleM f n c (slot n w₀ 4) (slot n w₀ 5)) eh, held-at 6 n s4 refl, s4 .only)
 
-    pub second-done : (s : ℕ) (w5 : List Float) → o ≡ Done s → QuotientPlaced f n w4 w5 → ReplacedBoth moved n (secondLogarithm f n (slot n w₀ 4) (slot n w₀ 5) (slot n w₀ 0)) (Done 0) w₀ w5
+    pub second-done : (s : ℕ) (w5 : List Float) → o ≡ Done s → QuotientPlaced f n w4 w5 → ReplacedBoth moved n (secondLogarithm f n (slot n w₀ 5) (slot n w₀ 4) (slot n w₀ 0)) (Done 0) w₀ w5
     unfolding secondLogarithm _>>=_ outcome exit
     second-done s w5 eo P =
-        let x : logarithm f n (accumulateM f n (logStep f) (slot n w₀ 4) (slot n w₀ 5)) ≡ done s (slot n w4 0) =
+        let x : logarithm f n (addMultipleM f n (logStep f) (slot n w₀ 4) (slot n w₀ 5)) ≡ done s (slot n w4 0) =
         ap (logarithm f n) (sym (shifted .0)) ∙ call-done (logarithm f n (slot n w3 0)) o (slot n w4 0) s (R .outcome) (R .result) eo in
         rw x
         (record {
@@ -61,10 +61,10 @@ module _ (f : Format) (n : ℕ) (w₀ : List Float) (r : Room n w₀) where
           only = only-trans (shifted .2) (only-more (member-among (member moved) (0 ∷ 1 ∷ []) refl) (P .only));
         })
 
-    pub second-refused : (y : Refusal) → o ≡ Refused y → ReplacedBoth moved n (secondLogarithm f n (slot n w₀ 4) (slot n w₀ 5) (slot n w₀ 0)) (Refused y) w₀ w4
+    pub second-refused : (y : Refusal) → o ≡ Refused y → ReplacedBoth moved n (secondLogarithm f n (slot n w₀ 5) (slot n w₀ 4) (slot n w₀ 0)) (Refused y) w₀ w4
     unfolding secondLogarithm
     second-refused y eo =
-        both-refused (logarithm f n (accumulateM f n (logStep f) (slot n w₀ 4) (slot n w₀ 5))) _ moved n o y w₀ w4 (R .outcome ∙ ap (λ (a : List Float). outcome (logarithm f n a)) (shifted .0)) eo (shifted .2)
+        both-refused (logarithm f n (addMultipleM f n (logStep f) (slot n w₀ 4) (slot n w₀ 5))) _ moved n o y w₀ w4 (R .outcome ∙ ap (λ (a : List Float). outcome (logarithm f n a)) (shifted .0)) eo (shifted .2)
 
   -- ---- both
 
@@ -75,13 +75,13 @@ module _ (f : Format) (n : ℕ) (w₀ : List Float) (r : Room n w₀) where
         let s2 = step-call used s1 (R .only) (member-among (member moved) used refl) in
         (held-at 0 n s1 refl, held-at 4 n s2 refl, held-at 5 n s2 refl, s2 .only)
 
-    pub frechet-follows : (s : ℕ) (p : Outcome) (w3 : List Float) → o ≡ Done s → ReplacedBoth moved n (secondLogarithm f n (slot n w2 4) (slot n w2 5) (slot n w2 0)) p w2 w3
+    pub frechet-follows : (s : ℕ) (p : Outcome) (w3 : List Float) → o ≡ Done s → ReplacedBoth moved n (secondLogarithm f n (slot n w2 5) (slot n w2 4) (slot n w2 0)) p w2 w3
         → ReplacedBoth moved n (frechetLogM f n (slot n w₀ 0) (slot n w₀ 4)) p w₀ w3
     unfolding frechetLogM secondLogarithm
     frechet-follows s p w3 eo S =
         let x : logarithm f n (slot n w₀ 0) ≡ done s (slot n w2 0) = ap (logarithm f n) (sym (first .0)) ∙ call-done (logarithm f n (slot n w1 0)) o (slot n w2 0) s (R .outcome) (R .result) eo in
-        let S′ : ReplacedBoth moved n (secondLogarithm f n (slot n w₀ 4) (slot n w₀ 0) (slot n w2 0)) p w2 w3 = rw (first .1, first .2) at S in
-        both-follows (logarithm f n (slot n w₀ 0)) (secondLogarithm f n (slot n w₀ 4) (slot n w₀ 0)) (slot n w2 0) s n moved p w₀ w2 w3 x (first .3) S′
+        let S′ : ReplacedBoth moved n (secondLogarithm f n (slot n w₀ 0) (slot n w₀ 4) (slot n w2 0)) p w2 w3 = rw (first .1, first .2) at S in
+        both-follows (logarithm f n (slot n w₀ 0)) (secondLogarithm f n (slot n w₀ 0) (slot n w₀ 4)) (slot n w2 0) s n moved p w₀ w2 w3 x (first .3) S′
 
     pub frechet-refused : (y : Refusal) → o ≡ Refused y → ReplacedBoth moved n (frechetLogM f n (slot n w₀ 0) (slot n w₀ 4)) (Refused y) w₀ w2
     unfolding frechetLogM

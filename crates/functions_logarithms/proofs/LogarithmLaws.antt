@@ -7,7 +7,7 @@ use mathlib.Core.Bool.{Bool, true, false, cond}
 use mathlib.Core.List.{List, [], _∷_}
 use lib.Ieee.{Float, Format, le, mul}
 use Rattle.arithmetic_floats.specs.Float.{epsilon, powerOfTwo}
-use Rattle.arithmetic_matrices.specs.Product.{mulM, scaleM, timesM, addM, zeroM, minusIdentityM}
+use Rattle.arithmetic_matrices.specs.Product.{mulM, timesM, addM, zeroM, minusIdentityM}
 use Rattle.arithmetic_matrices.specs.Norm.{frobenius}
 use Rattle.arithmetic_matrices.specs.Workspace.{Room, slot, store, member, Only}
 use Rattle.arithmetic_questions.specs.Result.{Result, done, refused, _>>=_, outcome, exit}
@@ -15,12 +15,12 @@ use Rattle.arithmetic_questions.specs.Kernels.{Replaced}
 use Rattle.arithmetic_questions.specs.declared.answer.Outcome.the-variants as outcomes
 use Rattle.arithmetic_questions.specs.declared.answer.Refusal.the-variants.{NotConverged}
 use Rattle.arithmetic_matrices.proofs.MatrixLaws.{square-le}
-use Rattle.arithmetic_matrices.proofs.ProductLaws.{length-scaleM}
+use Rattle.arithmetic_matrices.proofs.ProductLaws.{length-timesM}
 use Rattle.arithmetic_matrices.proofs.Slots.{only-refl, only-trans, only-more, slot-only, length-slot}
 use Rattle.arithmetic_matrices.proofs.States.{start, step-mult, step-copy, step-copy-in, step-call, step-times, step-add, step-zero, step-minus-identity, held-at, member-among}
 use Rattle.functions_definitions.specs.Iterate.{Step, running, stopped, after, verdict, ended}
 use Rattle.functions_definitions.specs.Roots.{newtonRoot}
-use Rattle.functions_definitions.specs.Logarithm.{isFar, Rooted, rooted, rootingStep, rooting, Series, seriesStep, seriesCoefficient, series, logarithm}
+use Rattle.functions_definitions.specs.Logarithm.{isFar, rootLimit, Rooted, rooted, rootingStep, rooting, furtherTerms, Series, seriesStep, seriesCoefficient, series, nearLogarithm, logarithm}
 use Rattle.functions_roots.specs.Kernels.{asStep, tested, answered, OnePass, Passes, NewtonRoot}
 use Rattle.functions_logarithms.specs.Kernels.{rootedAs, asRooting, RootingPass, asTaken, RootsTaken, seriesIn, TermsAdded, SeriesSummed, LogarithmNear}
 use Rattle.functions_roots.specs.declared.pass.Pass.{Pass}
@@ -97,26 +97,26 @@ module _ (f : Format) (n : ℕ) (w₀ w w′ : List Float) (k : ℕ) (p : Pass) 
     only = changed;
   }
 
-  pub rooting-stops : k < 100 → p ≡ Stopped → RootsTaken f n (Taken k) w₀ w′
+  pub rooting-stops : k < rootLimit → p ≡ Stopped → RootsTaken f n (Taken k) w₀ w′
   unfolding rooting
   rooting-stops h e = record {
-    taken = sym (ap ended (stops (λ _. rootingStep f n) (rootedAs (slot n w₀ 0) 0) (rootedAs (slot n w 0) k) k (H .state) (rootedAs (slot n w′ 0) k) 100 h (told Stopped e)));
+    taken = sym (ap ended (stops (λ _. rootingStep f n) (rootedAs (slot n w₀ 0) 0) (rootedAs (slot n w 0) k) k (H .state) (rootedAs (slot n w′ 0) k) rootLimit h (told Stopped e)));
     few = omega arith;
     only = changed;
   }
 
-  pub rooting-fails : k < 100 → p ≡ Failed → RootsTaken f n Refused w₀ w′
+  pub rooting-fails : k < rootLimit → p ≡ Failed → RootsTaken f n Refused w₀ w′
   unfolding rooting
   rooting-fails h e = record {
-    taken = sym (ap ended (fails (λ _. rootingStep f n) (rootedAs (slot n w₀ 0) 0) (rootedAs (slot n w 0) k) k (H .state) 100 h (told Failed e)));
+    taken = sym (ap ended (fails (λ _. rootingStep f n) (rootedAs (slot n w₀ 0) 0) (rootedAs (slot n w 0) k) k (H .state) rootLimit h (told Failed e)));
     few = omega arith;
     only = changed;
   }
 
-pub rooting-out : (f : Format) (n : ℕ) (w₀ w : List Float) (k : ℕ) → Rooting f n w₀ w k → k ≤ 100 → 100 ≤ k → RootsTaken f n (Taken k) w₀ w
+pub rooting-out : (f : Format) (n : ℕ) (w₀ w : List Float) (k : ℕ) → Rooting f n w₀ w k → k ≤ rootLimit → rootLimit ≤ k → RootsTaken f n (Taken k) w₀ w
 unfolding rooting
 rooting-out f n w₀ w k H h l = record {
-  taken = sym (ap ended (runs-out (λ _. rootingStep f n) (rootedAs (slot n w₀ 0) 0) (rootedAs (slot n w 0) k) k (H .state) 100 h l));
+  taken = sym (ap ended (runs-out (λ _. rootingStep f n) (rootedAs (slot n w₀ 0) 0) (rootedAs (slot n w 0) k) k (H .state) rootLimit h l));
   few = h;
   only = H .only;
 }
@@ -149,7 +149,7 @@ module _ (f : Format) (n : ℕ) (w₀ : List Float) (r : Room n w₀) where
   term-same k w w′ p o P = rw (slot-only n (member summing) w₀ w 0 1 o (omega (arith, square-le n (r .order))) refl) at P
 
   -- what the passes answered, as the terms that they added
-  pub terms-added : (q : Pass) (w : List Float) → ended (asStep q (seriesIn n w)) ≡ done 0 (seriesIn n w) → Passes (seriesStep f n (slot n w₀ 0)) 59 (seriesIn n) summing q w₀ w → TermsAdded f n w₀ w
+  pub terms-added : (q : Pass) (w : List Float) → ended (asStep q (seriesIn n w)) ≡ done 0 (seriesIn n w) → Passes (seriesStep f n (slot n w₀ 0)) furtherTerms (seriesIn n) summing q w₀ w → TermsAdded f n w₀ w
   terms-added q w e P = record { terms = sym e ∙ ap ended (P .step); only = P .only }
 
   pub series-summed : (w1 w2 w3 w4 : List Float) → w1 ≡ store w₀ 1 (slot n w₀ 0) → w2 ≡ store w1 2 (zeroM n) → w3 ≡ store w2 2 (addM f n (slot n w2 2) (slot n w2 1)) → TermsAdded f n w3 w4 → SeriesSummed f n w₀ w4
@@ -159,25 +159,25 @@ module _ (f : Format) (n : ℕ) (w₀ : List Float) (r : Room n w₀) where
       let s2 = step-zero n (r .order) 2 s1 e2 refl refl in
       let s3 = step-add n (r .order) f 2 1 s2 e3 refl refl refl refl in
       record {
-        terms = T .terms ∙ (λ i. ended (after (seriesStep f n (held-at 0 n s3 refl i)) (record { power = held-at 1 n s3 refl i; sum = held-at 2 n s3 refl i }) 59));
+        terms = T .terms ∙ (λ i. ended (after (seriesStep f n (held-at 0 n s3 refl i)) (record { power = held-at 1 n s3 refl i; sum = held-at 2 n s3 refl i }) furtherTerms));
         only = only-trans (s3 .only) (T .only);
       }
 
   -- ---- the logarithm
 
-  pub near-steps : (k : ℕ) (w1 w2 w3 w4 : List Float) (t : Float) → w1 ≡ store w₀ 0 (minusIdentityM f n (slot n w₀ 0)) → SeriesSummed f n w1 w2 → t ≡ powerOfTwo k → w3 ≡ store w2 2 (scaleM f n t (slot n w2 2))
+  pub near-steps : (k : ℕ) (w1 w2 w3 w4 : List Float) (t : Float) → w1 ≡ store w₀ 0 (minusIdentityM f n (slot n w₀ 0)) → SeriesSummed f n w1 w2 → t ≡ powerOfTwo k → w3 ≡ store w2 2 (timesM f n t (slot n w2 2))
       → w4 ≡ store w3 0 (slot n w3 2) → LogarithmNear f n k w₀ w4
   unfolding _>>=_
   near-steps k w1 w2 w3 w4 t e1 S et e3 e4 =
       let s1 = step-minus-identity n (r .order) f 0 (start (member used) n r) e1 refl refl refl in
       let s2 = step-call summing s1 (S .only) (member-among (member used) summing refl) in
-      let s3 = step-copy-in n (r .order) 2 (scaleM f n t (slot n w2 2)) s2 e3 (length-scaleM f n t (slot n w2 2)) refl refl in
+      let s3 = step-copy-in n (r .order) 2 (timesM f n t (slot n w2 2)) s2 e3 (length-timesM f n t (slot n w2 2)) refl refl in
       let s4 = step-copy n (r .order) 2 0 s3 e4 refl refl refl in
       record {
         result =
             (λ i. done 0 (held-at 0 n s4 refl i))
-            ∙ (λ i. done 0 (scaleM f n (et i) (slot n w2 2)))
-            ∙ ap (λ (z : Result Series). z >>= λ s. done 0 (scaleM f n (powerOfTwo k) (s .sum))) (S .terms ∙ ap (λ (x : List Float). ended (series f n x 59)) (held-at 0 n s1 refl));
+            ∙ (λ i. done 0 (timesM f n (et i) (slot n w2 2)))
+            ∙ ap (λ (z : Result Series). z >>= λ s. done 0 (timesM f n (powerOfTwo k) (s .sum))) (S .terms ∙ ap (λ (x : List Float). ended (series f n x furtherTerms)) (held-at 0 n s1 refl));
         only = s4 .only;
       }
 
@@ -185,15 +185,15 @@ module _ (f : Format) (n : ℕ) (w₀ : List Float) (r : Room n w₀) where
     pub logarithm-done : (k : ℕ) (w2 : List Float) → o ≡ Taken k → LogarithmNear f n k w1 w2 → Replaced used n (logarithm f n (slot n w₀ 0)) (outcomes.Done 0) w₀ w2
     unfolding logarithm _>>=_ outcome exit
     logarithm-done k w2 e L =
-        let t : done 0 (rootedAs (slot n w1 0) k) ≡ ended (rooting f n (slot n w₀ 0) 100) = ap (λ (z : Roots). asTaken z (slot n w1 0)) (sym e) ∙ R .taken in
+        let t : done 0 (rootedAs (slot n w1 0) k) ≡ ended (rooting f n (slot n w₀ 0) rootLimit) = ap (λ (z : Roots). asTaken z (slot n w1 0)) (sym e) ∙ R .taken in
         let x : done 0 (slot n w2 0) ≡ logarithm f n (slot n w₀ 0) =
-        L .result ∙ ap (λ (z : Result Rooted). z >>= λ v. ended (series f n (minusIdentityM f n (v .work)) 59) >>= λ s. done 0 (scaleM f n (powerOfTwo (v .roots)) (s .sum))) t in
+        L .result ∙ ap (λ (z : Result Rooted). z >>= λ v. nearLogarithm f n (v .roots) (v .work)) t in
         record { outcome = ap outcome x; result = ap (λ (z : Result (List Float)). exit (λ v. v) z (slot n w2 0)) x; only = only-trans (R .only) (L .only) }
 
     pub logarithm-refused : o ≡ Refused → Replaced used n (logarithm f n (slot n w₀ 0)) (outcomes.Refused NotConverged) w₀ w1
     unfolding logarithm _>>=_ outcome exit
     logarithm-refused e =
-        let t : refused 13 0 0 ≡ ended (rooting f n (slot n w₀ 0) 100) = ap (λ (z : Roots). asTaken z (slot n w1 0)) (sym e) ∙ R .taken in
+        let t : refused 13 0 0 ≡ ended (rooting f n (slot n w₀ 0) rootLimit) = ap (λ (z : Roots). asTaken z (slot n w1 0)) (sym e) ∙ R .taken in
         let x : refused 13 0 0 ≡ logarithm f n (slot n w₀ 0) =
-        ap (λ (z : Result Rooted). z >>= λ v. ended (series f n (minusIdentityM f n (v .work)) 59) >>= λ s. done 0 (scaleM f n (powerOfTwo (v .roots)) (s .sum))) t in
+        ap (λ (z : Result Rooted). z >>= λ v. nearLogarithm f n (v .roots) (v .work)) t in
         record { outcome = ap outcome x; result = ap (λ (z : Result (List Float)). exit (λ v. v) z (slot n w1 0)) x; only = R .only }

@@ -20,7 +20,7 @@ use Rattle.lu_factoring.specs.declared.LuOutcome.{LuOutcome}
 use Rattle.lu_factoring.specs.declared.LuOutcome.the-variants.{Factored, Singular}
 use Rattle.lu_factoring.specs.Solve.{division, whereFactored}
 use Rattle.functions_definitions.specs.Iterate.{after, verdict}
-use Rattle.functions_definitions.specs.Roots.{rootTolerance, newtonNext, newtonStep, newtonScale, newtonStart, newton}
+use Rattle.functions_definitions.specs.Roots.{rootTolerance, passLimit, newtonNext, newtonStep, newtonScale, newtonStart, newton}
 use Rattle.functions_roots.specs.Kernels.{asStep, tested, OnePass, Passes, SlotQuotient, NewtonMean, NewtonRoot}
 use Rattle.functions_roots.specs.declared.pass.Pass.{Pass}
 use Rattle.functions_roots.specs.declared.pass.Pass.the-variants.{Failed}
@@ -76,12 +76,12 @@ module _ (f : Format) (n : ℕ) (w₀ : List Float) (r : Room n w₀) where
   pub newton-same : (w w′ : List Float) (p : Pass) → Only (member used) w₀ w → OnePass (newtonStep f n (slot n w 0)) (root n) used p w w′ → OnePass (newtonStep f n (slot n w₀ 0)) (root n) used p w w′
   newton-same w w′ p o P = rw (slot-only n (member used) w₀ w 0 1 o (omega (arith, square-le n (r .order))) refl) at P
 
-  pub newton-all : (w1 w2 : List Float) (d : Float) (p : Pass) → d ≡ newtonScale f n (slot n w₀ 0) → w1 ≡ store w₀ 1 (diagonalM n d) → Passes (λ _. newtonStep f n (slot n w1 0)) 100 (root n) used p w1 w2 → NewtonRoot f n p w₀ w2
+  pub newton-all : (w1 w2 : List Float) (d : Float) (p : Pass) → d ≡ newtonScale f n (slot n w₀ 0) → w1 ≡ store w₀ 1 (diagonalM n d) → Passes (λ _. newtonStep f n (slot n w1 0)) passLimit (root n) used p w1 w2 → NewtonRoot f n p w₀ w2
   unfolding newton newtonStart
   newton-all w1 w2 d p ed e1 P =
       let s1 = step-diagonal n (r .order) d 1 (start (member used) n r) e1 refl refl in
       let x : slot n w1 1 ≡ diagonalM n (newtonScale f n (slot n w₀ 0)) = held-at 1 n s1 refl ∙ ap (diagonalM n) ed in
-      record { step = P .step ∙ (λ i. after (λ _. newtonStep f n (held-at 0 n s1 refl i)) (x i) 100); only = only-trans (s1 .only) (P .only) }
+      record { step = P .step ∙ (λ i. after (λ _. newtonStep f n (held-at 0 n s1 refl i)) (x i) passLimit); only = only-trans (s1 .only) (P .only) }
 
 -- ---- the start's scale, by the test that the code makes
 

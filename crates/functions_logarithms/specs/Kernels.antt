@@ -1,19 +1,20 @@
--- What the parts of the logarithm and of its derivative leave in a workspace. The matrix stands in slot 0, and slots 1 to 3 are scratch. Only the contracts of kernels cite it. Definitions only.
+-- What the parts of the logarithm and of its derivative leave in a workspace. Only the contracts of kernels cite it. Definitions only.
 use Prim.Native.Nat.{ℕ, suc, _≤_}
 use mathlib.Core.Path.{_≡_}
 use mathlib.Core.List.{List, [], _∷_}
 use lib.Ieee.{Float, Format}
-use Rattle.arithmetic_floats.specs.Float.{powerOfTwo}
-use Rattle.arithmetic_matrices.specs.Product.{scaleM, minusIdentityM, differenceQuotientM}
-use Rattle.arithmetic_questions.specs.Result.{Result, refused, done, _>>=_}
+use Rattle.arithmetic_matrices.specs.Product.{differenceQuotientM}
+use Rattle.arithmetic_questions.specs.Result.{Result, refused, done}
 use Rattle.arithmetic_matrices.specs.Workspace.{slot, member, Only}
 use Rattle.functions_definitions.specs.Iterate.{Step, running, stopped, failed, after, ended}
-use Rattle.functions_definitions.specs.Logarithm.{Rooted, rootingStep, rooting, Series, seriesStep, series}
+use Rattle.functions_definitions.specs.Logarithm.{rootLimit, Rooted, rootingStep, rooting, furtherTerms, Series, seriesStep, series, nearLogarithm}
 use Rattle.functions_roots.specs.declared.pass.Pass.{Pass}
 use Rattle.functions_roots.specs.declared.pass.Pass.the-variants.{Running, Stopped, Failed}
 use Rattle.functions_logarithms.specs.declared.logarithm.Roots.{Roots}
 use Rattle.functions_logarithms.specs.declared.logarithm.Roots.the-variants.{Taken, Refused}
 use Rattle.functions_definitions.specs.Derivatives.{logStep}
+
+-- ---- the square roots: the matrix stands in slot 0, and slots 1 to 3 are scratch
 
 abbrev pub rootedAs : List Float → ℕ → Rooted
 rootedAs x k = record { work = x; roots = k }
@@ -40,29 +41,33 @@ countOf Refused = 0
 
 -- all passes
 pub record RootsTaken (f : Format) (n : ℕ) (r : Roots) (w w′ : List Float) : Type 0 where
-  pub taken : asTaken r (slot n w′ 0) ≡ ended (rooting f n (slot n w 0) 100)
-  pub few : countOf r ≤ 100
+  pub taken : asTaken r (slot n w′ 0) ≡ ended (rooting f n (slot n w 0) rootLimit)
+  pub few : countOf r ≤ rootLimit
   pub only : Only (member (0 ∷ 1 ∷ 2 ∷ 3 ∷ [])) w w′
+
+-- ---- the series: X stands in slot 0, a power of it in slot 1, the sum in slot 2, a term in slot 3
 
 abbrev pub seriesIn : ℕ → List Float → Series
 seriesIn n w = record { power = slot n w 1; sum = slot n w 2 }
 
--- the terms that are added to what stands in slots 1 and 2
+-- the further terms are added
 pub record TermsAdded (f : Format) (n : ℕ) (w w′ : List Float) : Type 0 where
-  pub terms : done 0 (seriesIn n w′) ≡ ended (after (seriesStep f n (slot n w 0)) (seriesIn n w) 59)
+  pub terms : done 0 (seriesIn n w′) ≡ ended (after (seriesStep f n (slot n w 0)) (seriesIn n w) furtherTerms)
   pub only : Only (member (1 ∷ 2 ∷ 3 ∷ [])) w w′
 
--- all of it
+-- the sum is formed from X alone
 pub record SeriesSummed (f : Format) (n : ℕ) (w w′ : List Float) : Type 0 where
-  pub terms : done 0 (seriesIn n w′) ≡ ended (series f n (slot n w 0) 59)
+  pub terms : done 0 (seriesIn n w′) ≡ ended (series f n (slot n w 0) furtherTerms)
   pub only : Only (member (1 ∷ 2 ∷ 3 ∷ [])) w w′
 
--- the logarithm of a matrix near I, which stands in slot 0, times 2 ^ k
+-- the logarithm of a matrix near I, times 2 ^ k, takes its place in slot 0
 pub record LogarithmNear (f : Format) (n k : ℕ) (w w′ : List Float) : Type 0 where
-  pub result : done 0 (slot n w′ 0) ≡ (ended (series f n (minusIdentityM f n (slot n w 0)) 59) >>= λ s. done 0 (scaleM f n (powerOfTwo k) (s .sum)))
+  pub result : done 0 (slot n w′ 0) ≡ nearLogarithm f n k (slot n w 0)
   pub only : Only (member (0 ∷ 1 ∷ 2 ∷ 3 ∷ [])) w w′
 
--- the difference quotient of the logarithms in slots 0 and 6 goes to slot 1, and the one in slot 6 to slot 0
+-- ---- the derivative: log (A + h E) stands in slot 0, log A in slot 6
+
+-- log A goes to slot 0, and the difference quotient to slot 1
 pub record QuotientPlaced (f : Format) (n : ℕ) (w w′ : List Float) : Type 0 where
   pub value : slot n w′ 0 ≡ slot n w 6
   pub derivative : slot n w′ 1 ≡ differenceQuotientM f n (logStep f) (slot n w 0) (slot n w 6)

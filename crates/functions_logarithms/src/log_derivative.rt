@@ -5,7 +5,7 @@ ghost use mathlib.Core.List.{[], _∷_};
 ghost use lib.Ieee.{binary64};
 ghost use Rattle.arithmetic_matrices.specs.Workspace.{Room, slot};
 ghost use Rattle.arithmetic_questions.specs.Kernels.{ReplacedBoth};
-ghost use Rattle.functions_definitions.specs.Derivatives.{logStep, frechetLogM, secondLogarithm};
+ghost use Rattle.functions_definitions.specs.Derivatives.{logStep, secondLogarithm, frechetLogM};
 ghost use Rattle.functions_logarithms.specs.Kernels.{QuotientPlaced};
 use crate::logarithm::logm_in;
 use arithmetic_floats::root::sqrt;
@@ -34,7 +34,7 @@ fn place_quotient(w: &mut [f64], n: usize)
 // The second logarithm, of the matrix moved a step in the direction. The first stands in slot 0.
 fn second_logarithm(w: &mut [f64], n: usize) -> Outcome
     requires { ⌜ Room n (now w) ⌝ }
-    ensures { λ r. ⌜ ReplacedBoth (0 ∷ 1 ∷ 2 ∷ 3 ∷ 5 ∷ 6 ∷ []) n (secondLogarithm binary64 n (slot n (now (w .entry)) 4) (slot n (now (w .entry)) 5) (slot n (now (w .entry)) 0)) r (now (w .entry)) (now (w .exit)) ⌝ }
+    ensures { λ r. ⌜ ReplacedBoth (0 ∷ 1 ∷ 2 ∷ 3 ∷ 5 ∷ 6 ∷ []) n (secondLogarithm binary64 n (slot n (now (w .entry)) 5) (slot n (now (w .entry)) 4) (slot n (now (w .entry)) 0)) r (now (w .entry)) (now (w .exit)) ⌝ }
 {
     copy(w, 0, 6, n);
     accumulate(w, 5, 4, log_step(), n);

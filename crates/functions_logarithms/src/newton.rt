@@ -3,7 +3,7 @@ ghost use mathlib.Core.Path.{_≡_};
 ghost use mathlib.Core.List.{[], _∷_};
 ghost use lib.Ieee.{binary64};
 ghost use Rattle.arithmetic_matrices.specs.Workspace.{Room, slot};
-ghost use Rattle.functions_definitions.specs.Roots.{newtonStep, newtonScale};
+ghost use Rattle.functions_definitions.specs.Roots.{passLimit, newtonStep, newtonScale};
 ghost use Rattle.functions_roots.specs.Kernels.{NewtonMean, OnePass, Passes, NewtonRoot};
 use arithmetic_floats::float::of_small;
 use arithmetic_floats::root::sqrt;
@@ -44,7 +44,7 @@ fn newton_pass(w: &mut [f64], n: usize) -> Pass
 // At most 100 passes.
 fn newton_passes(w: &mut [f64], n: usize) -> Pass
     requires { ⌜ Room n (now w) ⌝ }
-    ensures { λ r. ⌜ Passes (λ _. newtonStep binary64 n (slot n (now (w .entry)) 0)) 100 (λ v. slot n v 1) (1 ∷ 2 ∷ 3 ∷ []) r (now (w .entry)) (now (w .exit)) ⌝ }
+    ensures { λ r. ⌜ Passes (λ _. newtonStep binary64 n (slot n (now (w .entry)) 0)) passLimit (λ v. slot n v 1) (1 ∷ 2 ∷ 3 ∷ []) r (now (w .entry)) (now (w .exit)) ⌝ }
 {
     let mut i: u64 = 0;
     while i < 100 {

@@ -1,4 +1,4 @@
--- Laws of powers: the exponent that is taken for whole, exp (p log A) in a workspace, and the refusals met on the way. Assumes nothing.
+-- Laws of powers: the exponent that is taken for whole, and exp (p log A) in a workspace. Assumes nothing.
 use mathlib.Core.Path.{_≡_, refl, sym, ap, _∙_}
 use mathlib.Core.List.{List, [], _∷_}
 use mathlib.Core.Bool.{Bool, true, false, cond}
@@ -45,5 +45,3 @@ multiple-replaced f n p g o w₀ w1 w2 w3 r e1 e2 R =
     let s1 = step-times n (r .order) f p 0 1 (start (member (0 ∷ 1 ∷ 2 ∷ 3 ∷ 4 ∷ 5 ∷ [])) n r) e1 refl refl refl in
     let s2 = step-copy n (r .order) 1 0 s1 e2 refl refl refl in
     rw (← held-at 0 n s2 refl) (record { outcome = R .outcome; result = R .result; only = only-trans (s2 .only) (R .only) })
-
--- ---- refusals

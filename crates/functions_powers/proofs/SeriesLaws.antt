@@ -7,17 +7,17 @@ use native.Mathlib.Numerals.{add-one}
 use native.Mathlib.Omega.{arith}
 use lib.Ieee.{Float, Format, add}
 use Rattle.arithmetic_floats.specs.Float.{one, powerOfTwo, inversePowerOfTwo}
-use Rattle.arithmetic_matrices.specs.Product.{mulM, timesM, scaleM, identityM, minusIdentityM, deductM, accumulateM, addMultipleM}
+use Rattle.arithmetic_matrices.specs.Product.{mulM, timesM, identityM, minusIdentityM, deductM, addMultipleM}
 use Rattle.arithmetic_matrices.specs.Workspace.{Room, slot, store, member, Only}
 use Rattle.arithmetic_matrices.specs.Norm.{norm1}
 use Rattle.arithmetic_matrices.proofs.MatrixLaws.{square-le}
-use Rattle.arithmetic_matrices.proofs.ProductLaws.{accumulateM-comm, length-mulM, length-timesM}
+use Rattle.arithmetic_matrices.proofs.ProductLaws.{length-mulM, length-timesM}
 use Rattle.arithmetic_matrices.proofs.Slots.{picks, slot-store, room-kept, room-within, member-here, member-next, only-refl, only-trans, only-more, only-store, slot-only}
-use Rattle.arithmetic_matrices.proofs.States.{start, held-at, step-mult, step-identity, step-deduct, step-accumulate, step-minus-identity, step-scale, step-copy, step-call, member-among}
+use Rattle.arithmetic_matrices.proofs.States.{start, held-at, step-mult, step-identity, step-deduct, step-accumulate, step-minus-identity, step-times, step-copy, step-call, member-among}
 use Rattle.arithmetic_questions.proofs.OutputLaws.{Late}
 use Rattle.functions_definitions.specs.Exponential.{scaled}
 use Rattle.functions_definitions.proofs.HalvingLaws.{halvings-late}
-use Rattle.functions_definitions.specs.Trigonometric.{oneOver, cosineTo6, cosineTo8, cosineBeside, sineTo7, cosineDoubled, sineDoubled, cosineAt, sineAt, trigonometricHalvings, cosM, sinM}
+use Rattle.functions_definitions.specs.Trigonometric.{oneOver, cosineTo6, cosineTo8, cosineBeside, sineTo7, twiceProduct, doubleCosine, doubleSine, cosineDoubled, sineDoubled, cosineAt, sineAt, trigonometricHalvings, cosM, sinM}
 use Rattle.functions_powers.specs.Kernels.{EvenPowers, Sixth, Beside, Eighth, OddPowers, Seventh, BothSeries, Doubled, CosineDoubled, BothDoubled, CosineAfter, BothAfter, CosineRun, SineRun}
 
 -- a slot that a call does not change
@@ -36,7 +36,7 @@ module _ (f : Format) (n : ℕ) (w₀ : List Float) (r : Room n w₀) where
       record { second = held-at 1 n s3 refl; fourth = held-at 2 n s3 refl; sixth = held-at 3 n s3 refl; only = s3 .only }
 
   pub sixth-steps : (w1 w2 w3 w4 : List Float) (a b c : Float) → a ≡ oneOver f 2 → b ≡ oneOver f 24 → c ≡ oneOver f 720
-      → w1 ≡ store w₀ 4 (identityM n) → w2 ≡ store w1 4 (deductM f n a (slot n w1 1) (slot n w1 4)) → w3 ≡ store w2 4 (accumulateM f n b (slot n w2 2) (slot n w2 4)) → w4 ≡ store w3 4 (deductM f n c (slot n w3 3) (slot n w3 4))
+      → w1 ≡ store w₀ 4 (identityM n) → w2 ≡ store w1 4 (deductM f n a (slot n w1 1) (slot n w1 4)) → w3 ≡ store w2 4 (addMultipleM f n b (slot n w2 2) (slot n w2 4)) → w4 ≡ store w3 4 (deductM f n c (slot n w3 3) (slot n w3 4))
       → Sixth f n w₀ w4
   unfolding cosineTo6
   sixth-steps w1 w2 w3 w4 a b c ea eb ec e1 e2 e3 e4 =
@@ -49,7 +49,6 @@ module _ (f : Format) (n : ℕ) (w₀ : List Float) (r : Room n w₀) where
       let s4 = step-deduct n (r .order) f c 4 3 s3 e4 refl refl refl refl in
       record {
         summed = held-at 4 n s4 refl
-            ∙ ap (deductM f n c x6) (accumulateM-comm f n b x4 (deductM f n a x2 (identityM n)))
             ∙ (λ i. deductM f n (ec i) x6 (addMultipleM f n (eb i) x4 (deductM f n (ea i) x2 (identityM n))));
         only = s4 .only;
       }
@@ -67,7 +66,7 @@ module _ (f : Format) (n : ℕ) (w₀ : List Float) (r : Room n w₀) where
         only = only-trans (s1 .only) (only-more (member-among all (4 ∷ []) refl) (S .only));
       }
 
-  pub eighth-steps : (w1 w2 w3 : List Float) (a : Float) → a ≡ oneOver f 40320 → Beside f n w₀ w1 → w2 ≡ store w1 0 (mulM f n (slot n w1 3) (slot n w1 1)) → w3 ≡ store w2 4 (accumulateM f n a (slot n w2 0) (slot n w2 4))
+  pub eighth-steps : (w1 w2 w3 : List Float) (a : Float) → a ≡ oneOver f 40320 → Beside f n w₀ w1 → w2 ≡ store w1 0 (mulM f n (slot n w1 3) (slot n w1 1)) → w3 ≡ store w2 4 (addMultipleM f n a (slot n w2 0) (slot n w2 4))
       → Eighth f n w₀ w3
   unfolding cosineTo8 cosineBeside
   eighth-steps w1 w2 w3 a ea B e2 e3 =
@@ -78,7 +77,6 @@ module _ (f : Format) (n : ℕ) (w₀ : List Float) (r : Room n w₀) where
       let s3 = step-accumulate n (r .order) f a 4 0 s2 e3 refl refl refl refl in
       record {
         cosine = held-at 4 n s3 refl
-            ∙ accumulateM-comm f n a (mulM f n (slot n w1 3) (slot n w1 1)) (slot n w1 4)
             ∙ (λ i. addMultipleM f n (ea i) (mulM f n (B .sixth i) (B .second i)) (B .cosine i));
         only = only-trans (only-more (member-among all (1 ∷ 2 ∷ 3 ∷ 4 ∷ []) refl) (B .only)) (s3 .only);
       }
@@ -94,7 +92,7 @@ module _ (f : Format) (n : ℕ) (w₀ : List Float) (r : Room n w₀) where
       record { third = held-at 2 n s3 refl; fifth = held-at 3 n s3 refl; seventh = held-at 5 n s3 refl; only = s3 .only }
 
   pub seventh-steps : (w1 w2 w3 : List Float) (a b c : Float) → a ≡ oneOver f 6 → b ≡ oneOver f 120 → c ≡ oneOver f 5040
-      → w1 ≡ store w₀ 0 (deductM f n a (slot n w₀ 2) (slot n w₀ 0)) → w2 ≡ store w1 0 (accumulateM f n b (slot n w1 3) (slot n w1 0)) → w3 ≡ store w2 0 (deductM f n c (slot n w2 5) (slot n w2 0))
+      → w1 ≡ store w₀ 0 (deductM f n a (slot n w₀ 2) (slot n w₀ 0)) → w2 ≡ store w1 0 (addMultipleM f n b (slot n w1 3) (slot n w1 0)) → w3 ≡ store w2 0 (deductM f n c (slot n w2 5) (slot n w2 0))
       → Seventh f n w₀ w3
   seventh-steps w1 w2 w3 a b c ea eb ec e1 e2 e3 =
       let x = slot n w₀ 0 in
@@ -106,7 +104,6 @@ module _ (f : Format) (n : ℕ) (w₀ : List Float) (r : Room n w₀) where
       let s3 = step-deduct n (r .order) f c 0 5 s2 e3 refl refl refl refl in
       record {
         summed = held-at 0 n s3 refl
-            ∙ ap (deductM f n c x7) (accumulateM-comm f n b x5 (deductM f n a x3 x))
             ∙ (λ i. deductM f n (ec i) x7 (addMultipleM f n (eb i) x5 (deductM f n (ea i) x3 x)));
         only = s3 .only;
       }
@@ -158,7 +155,7 @@ module _ (f : Format) (n : ℕ) (w₀ : List Float) (r : Room n w₀) where
       let c1 : slot n w1 4 ≡ slot n w₀ 4 = slot-kept n (0 ∷ 1 ∷ []) r (S .only) 4 refl in
       record {
         sine = held-at 0 n s3 refl ∙ slot-kept n (4 ∷ 1 ∷ []) r1 (C .only) 0 refl ∙ S .product;
-        cosine = held-at 4 n s3 refl ∙ ap (minusIdentityM f n) (C .product ∙ (λ i. timesM f n (powerOfTwo 1) (mulM f n (c1 i) (c1 i))));
+        cosine = held-at 4 n s3 refl ∙ ap (minusIdentityM f n) (C .product ∙ (λ i. twiceProduct f n (c1 i) (c1 i)));
         only = only-trans (only-more (member-among all (0 ∷ 1 ∷ []) refl) (S .only)) (only-trans (only-more (member-among all (4 ∷ 1 ∷ []) refl) (C .only)) (s3 .only));
       }
 
@@ -169,7 +166,7 @@ module _ (f : Format) (n : ℕ) (w₀ : List Float) (r : Room n w₀) where
   pub cosine-more : (i : ℕ) (w w1 : List Float) → CosineAfter f n w₀ i w → CosineDoubled f n w w1 → CosineAfter f n w₀ (i + 1) w1
   unfolding cosineDoubled
   cosine-more i w w1 A D = record {
-    cosine = D .cosine ∙ ap (λ (c : List Float). minusIdentityM f n (timesM f n (powerOfTwo 1) (mulM f n c c))) (A .cosine) ∙ ap (cosineDoubled f n (slot n w₀ 4)) (sym (add-one i));
+    cosine = D .cosine ∙ ap (doubleCosine f n) (A .cosine) ∙ ap (cosineDoubled f n (slot n w₀ 4)) (sym (add-one i));
     only = only-trans (A .only) (D .only);
   }
 
@@ -180,18 +177,18 @@ module _ (f : Format) (n : ℕ) (w₀ : List Float) (r : Room n w₀) where
   pub both-more : (i : ℕ) (w w1 : List Float) → BothAfter f n w₀ i w → BothDoubled f n w w1 → BothAfter f n w₀ (i + 1) w1
   unfolding cosineDoubled sineDoubled
   both-more i w w1 A D = record {
-    sine = D .sine ∙ (λ j. timesM f n (powerOfTwo 1) (mulM f n (A .sine j) (A .cosine j))) ∙ ap (sineDoubled f n (slot n w₀ 0) (slot n w₀ 4)) (sym (add-one i));
-    cosine = D .cosine ∙ ap (λ (c : List Float). minusIdentityM f n (timesM f n (powerOfTwo 1) (mulM f n c c))) (A .cosine) ∙ ap (cosineDoubled f n (slot n w₀ 4)) (sym (add-one i));
+    sine = D .sine ∙ (λ j. doubleSine f n (A .sine j) (A .cosine j)) ∙ ap (sineDoubled f n (slot n w₀ 0) (slot n w₀ 4)) (sym (add-one i));
+    cosine = D .cosine ∙ ap (doubleCosine f n) (A .cosine) ∙ ap (cosineDoubled f n (slot n w₀ 4)) (sym (add-one i));
     only = only-trans (A .only) (D .only);
   }
 
   -- ---- all the steps
 
-  pub cosine-steps : (s : ℕ) (w1 w2 w3 w4 : List Float) → w1 ≡ store w₀ 0 (scaleM f n (inversePowerOfTwo s) (slot n w₀ 0)) → Eighth f n w1 w2 → CosineAfter f n w2 s w3 → w4 ≡ store w3 0 (slot n w3 4) → CosineRun f n s w₀ w4
+  pub cosine-steps : (s : ℕ) (w1 w2 w3 w4 : List Float) → w1 ≡ store w₀ 0 (timesM f n (inversePowerOfTwo s) (slot n w₀ 0)) → Eighth f n w1 w2 → CosineAfter f n w2 s w3 → w4 ≡ store w3 0 (slot n w3 4) → CosineRun f n s w₀ w4
   unfolding cosineAt scaled
   cosine-steps s w1 w2 w3 w4 e1 E D e4 =
       let all = member (0 ∷ 1 ∷ 2 ∷ 3 ∷ 4 ∷ []) in
-      let s1 = step-scale n (r .order) f (inversePowerOfTwo s) 0 (start all n r) e1 refl refl refl in
+      let s1 = step-times n (r .order) f (inversePowerOfTwo s) 0 0 (start all n r) e1 refl refl refl in
       let o3 = only-trans (s1 .only) (only-trans (E .only) (only-more (member-among all (1 ∷ 4 ∷ []) refl) (D .only))) in
       let r3 : Room n w3 = record { order = r .order; space = rw (o3 .long) (r .space) } in
       let s4 = step-copy n (r .order) 4 0 (start all n r3) e4 refl refl refl in
@@ -200,11 +197,11 @@ module _ (f : Format) (n : ℕ) (w₀ : List Float) (r : Room n w₀) where
         only = only-trans o3 (s4 .only);
       }
 
-  pub sine-steps : (s : ℕ) (w1 w2 w3 : List Float) → w1 ≡ store w₀ 0 (scaleM f n (inversePowerOfTwo s) (slot n w₀ 0)) → BothSeries f n w1 w2 → BothAfter f n w2 s w3 → SineRun f n s w₀ w3
+  pub sine-steps : (s : ℕ) (w1 w2 w3 : List Float) → w1 ≡ store w₀ 0 (timesM f n (inversePowerOfTwo s) (slot n w₀ 0)) → BothSeries f n w1 w2 → BothAfter f n w2 s w3 → SineRun f n s w₀ w3
   unfolding sineAt scaled
   sine-steps s w1 w2 w3 e1 B D =
       let all = member (0 ∷ 1 ∷ 2 ∷ 3 ∷ 4 ∷ 5 ∷ []) in
-      let s1 = step-scale n (r .order) f (inversePowerOfTwo s) 0 (start all n r) e1 refl refl refl in
+      let s1 = step-times n (r .order) f (inversePowerOfTwo s) 0 0 (start all n r) e1 refl refl refl in
       record {
         result = D .sine ∙ (λ i. sineDoubled f n ((B .sine ∙ ap (sineTo7 f n) (held-at 0 n s1 refl)) i) ((B .cosine ∙ ap (cosineBeside f n) (held-at 0 n s1 refl)) i) s);
         only = only-trans (s1 .only) (only-trans (B .only) (only-more (member-among all (0 ∷ 1 ∷ 4 ∷ []) refl) (D .only)));

@@ -2,4 +2,3 @@
 pub mod PassLaws
 pub mod SquareRootLaws
 pub mod RootDerivativeLaws
-pub mod NumberLaws

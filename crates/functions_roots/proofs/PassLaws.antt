@@ -1,12 +1,14 @@
 -- Laws of a loop over passes in a workspace, for every state that is read from it, and of a system in slots. Assumes nothing.
-use Prim.Native.Nat.{ℕ, _+_, _*_, _≤_, _<_}
+use Prim.Native.Nat.{ℕ, _+_, _-_, _*_, _≤_, _<_}
 use mathlib.Core.Path.{_≡_, refl, sym, ap, _∙_}
 use mathlib.Core.Bool.{Bool, true, false, true≢false}
 use mathlib.Core.List.{List}
 use mathlib.Core.Option.{some}
-use lib.Dec.{eqb}
-use lib.Ieee.{Float, Format, sub}
+use lib.Dec.{T, eqb}
+use lib.Ieee.{Float, Format, binary32, binary64, prec, fits, lt, le, mul, ofInt, round, sub}
+use Rattle.arithmetic_floats.specs.Float.{inversePowerOfTwo}
 use Rattle.arithmetic_floats.specs.Root.{sqrtOf}
+use Rattle.arithmetic_floats.proofs.RootBounds.{root-not-below}
 use Rattle.arithmetic_matrices.specs.Matrix.{part, tab, item}
 use Rattle.arithmetic_matrices.specs.Norm.{sumOfSquares, frobenius, normOfDifference}
 use Rattle.arithmetic_questions.specs.Result.{done, refused}
@@ -19,6 +21,7 @@ use Rattle.lu_factoring.specs.Lu.{luOutcome}
 use Rattle.lu_factoring.specs.Kernels.{divided}
 use Rattle.lu_factoring.specs.Solve.{standIn, quotient, division, whereFactored}
 use Rattle.lu_factoring.proofs.DivisionLaws.{divided-slot, divided-only}
+use Rattle.functions_definitions.specs.Roots.{rootTolerance}
 use Rattle.functions_definitions.specs.Iterate.{Step, running, after, verdict, ended}
 use Rattle.functions_roots.specs.Kernels.{asStep, tested, answered, OnePass, Passes, SlotQuotient}
 use Rattle.functions_roots.specs.declared.pass.Pass.{Pass}
@@ -34,6 +37,12 @@ step-tested false x = refl
 pub root-of-squares : (f : Format) (n : ℕ) (w : List Float) (a b : ℕ) (s : Float) → s ≡ sumOfSquares f (n * n) (tab (n * n) (λ i. sub f (item w (256 * a + i)) (item w (256 * b + i)))) → sqrtOf f s ≡ normOfDifference f n (slot n w a) (slot n w b)
 unfolding normOfDifference frobenius slot
 root-of-squares f n w a b s e = ap (sqrtOf f) e ∙ ap (λ (x : List Float). sqrtOf f (sumOfSquares f (n * n) x)) (sym (subM-parts f n w (256 * a) (256 * b)))
+
+-- The root of a sum of squares above 2 ^ -2 k is 2 ^ -k at least, and so not below the tolerance, 100 * 2 ^ (1 - prec), where k is prec - 13: 40 for binary64.
+pub large-root : (f : Format) (x : Float) → T (fits f x) → T (lt (inversePowerOfTwo (2 * (prec f - 13))) x) → lt (sqrtOf f x) (rootTolerance f) ≡ false
+unfolding fits le mul ofInt rootTolerance round
+large-root binary32 x h l = root-not-below binary32 x (inversePowerOfTwo (prec binary32 - 13)) (inversePowerOfTwo (2 * (prec binary32 - 13))) (rootTolerance binary32) h tt tt tt (refl, refl) tt l
+large-root binary64 x h l = root-not-below binary64 x (inversePowerOfTwo (prec binary64 - 13)) (inversePowerOfTwo (2 * (prec binary64 - 13))) (rootTolerance binary64) h tt tt tt (refl, refl) tt l
 
 -- what an iteration that has a result ends with, and one that failed
 pub answers-ended : {S : Type 0} (p : Pass) (x : S) → answered p ≡ true → done 0 x ≡ ended (asStep p x)

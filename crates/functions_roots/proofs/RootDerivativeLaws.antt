@@ -35,13 +35,10 @@ use Rattle.lu_factoring.proofs.LuLaws.{length-luAt}
 use Rattle.lu_factoring.proofs.SolveLaws.{length-permuted, length-forward, length-back}
 use Rattle.lu_factoring.proofs.DivisionLaws.{length-solvedMatrix}
 use Rattle.functions_definitions.specs.Roots.{orNotConverged, squareRoot}
-use Rattle.functions_definitions.specs.Derivatives.{sylvesterMatrix, sylvester, scalarDerivative, rootDerivative, frechetSqrtM}
+use Rattle.functions_definitions.specs.Derivatives.{sylvesterMatrix, columnDivision, sylvester, scalarDerivative, rootDerivative, frechetSqrtM}
 use Rattle.functions_roots.specs.Kernels.{systemSlots, SystemSolved, whereAccepted, derivedSlots, Derived}
 
 -- ---- the system is written
-
-pub fourth-le : (n : ℕ) → n * n ≤ 64 → n * n * (n * n) ≤ 4096
-fourth-le n h = mul-le-mul {n₁ = n * n} {m₁ = n * n} {n₂ = 64} {m₂ = 64} h h
 
 length-sylvesterMatrix : (f : Format) (n : ℕ) (s : List Float) → length (sylvesterMatrix f n s) ≡ n * n * (n * n)
 unfolding sylvesterMatrix
@@ -51,7 +48,7 @@ pub system-filled : (f : Format) (n : ℕ) (w s m : List Float) → n * n ≤ 64
     → putMid 2048 (2048 + n * n * (n * n) - 2048) w m ≡ store w 8 (sylvesterMatrix f n (slot n w 0))
 unfolding store slot
 system-filled f n w s m h room es em =
-    returned w m 2048 (n * n * (n * n)) (ap length em ∙ length-sylvesterMatrix f n s) (omega (arith, fourth-le n h)) ∙ ap (put w 2048) (em ∙ ap (sylvesterMatrix f n) es)
+    returned w m 2048 (n * n * (n * n)) (ap length em ∙ length-sylvesterMatrix f n s) (omega (arith, mul-le-mul h h)) ∙ ap (put w 2048) (em ∙ ap (sylvesterMatrix f n) es)
 
 -- ---- one right-hand column is its own matrix
 
@@ -98,12 +95,12 @@ module _ (f : Format) (n : ℕ) (w : List Float) (h : n * n ≤ 64) (room : 8192
   column-only : (o : LuOutcome) → Only (member systemSlots) w (divided f (n * n) 1 2048 1792 w o)
   unfolding divided store X K
   column-only Factored =
-      only-trans (only-run (member systemSlots) w 8 16 (luFactors f (n * n) K) refl (unfold luFactors in omega (arith, long-factors (n * n), fourth-le n h)))
+      only-trans (only-run (member systemSlots) w 8 16 (luFactors f (n * n) K) refl (unfold luFactors in omega (arith, long-factors (n * n), mul-le-mul h h)))
       (only-store (member systemSlots) (put w 2048 (luFactors f (n * n) K)) 7 X refl (omega (arith, length-solvedMatrix f (n * n) 1 (luFactors f (n * n) K) (luPivots f (n * n) K) (part w 1792 (n * n * 1)), mul-one (n * n))))
-  column-only (Singular k) = only-run (member systemSlots) w 8 16 (luAt f (n * n) K k) refl (omega (arith, long-factors k, fourth-le n h))
+  column-only (Singular k) = only-run (member systemSlots) w 8 16 (luAt f (n * n) K k) refl (omega (arith, long-factors k, mul-le-mul h h))
 
   pub system-solved : (w′ : List Float) (o : LuOutcome) → o ≡ luOutcome f (n * n) (part w 2048 (n * n * (n * n))) → w′ ≡ divided f (n * n) 1 2048 1792 w o → SystemSolved f n o w w′
-  unfolding slot K X
+  unfolding columnDivision slot K X
   system-solved w′ o eo ew = record {
     result = go o (ap (λ (v : List Float). slot n v 7) ew ∙ column-solved o) ∙ (λ i. whereFactored (eo i) (same i));
     only = rw ew (column-only o);
@@ -132,11 +129,10 @@ module _ (f : Format) (n : ℕ) (w₀ : List Float) (r : Room n w₀) where
     solution : (answered (whereFactored o (slot n w3 7)) ≡ sylvester f n (slot n w₀ 0) (slot n w₀ 6)) × Only (member derivedSlots) w₀ w3
     unfolding sylvester answered matrix
     solution =
-        let s1 = step-store 8 (sylvesterMatrix f n (slot n w₀ 0)) matrix (start (member derivedSlots) n r) e1 refl (length-sylvesterMatrix f n (slot n w₀ 0)) (omega (arith, fourth-le n h)) refl refl in
+        let s1 = step-store 8 (sylvesterMatrix f n (slot n w₀ 0)) matrix (start (member derivedSlots) n r) e1 refl (length-sylvesterMatrix f n (slot n w₀ 0)) (omega (arith, mul-le-mul h h)) refl refl in
         let s2 = step-transpose n (r .order) 6 7 s1 e2 refl refl refl in
         let s3 = step-call systemSlots s2 (Q .only) (member-among (member derivedSlots) systemSlots refl) in
-        let given : List Float → List Float → Option (List Float) = λ k x. whereFactored (luOutcome f (n * n) k) (solved f (n * n) (luFactors f (n * n) k) (luPivots f (n * n) k) x) in
-        (ap (λ (z : Option (List Float)). orNotConverged z >>= λ x. done 0 (transposeM n x)) (Q .result ∙ (λ i. given (held-at 8 (n * n) s2 refl i) (held-at 7 n s2 refl i))), s3 .only)
+        (ap (λ (z : Option (List Float)). orNotConverged z >>= λ x. done 0 (transposeM n x)) (Q .result ∙ (λ i. columnDivision f (n * n) (held-at 8 (n * n) s2 refl i) (held-at 7 n s2 refl i))), s3 .only)
 
     pub sylvester-solved : (w4 : List Float) → o ≡ Factored → w4 ≡ store w3 1 (transposeM n (slot n w3 7)) → Derived n (sylvester f n (slot n w₀ 0) (slot n w₀ 6)) true w₀ w4
     unfolding answered _>>=_

@@ -23,7 +23,7 @@ use Rattle.lu_factoring.specs.declared.LuOutcome.{LuOutcome}
 use Rattle.lu_factoring.specs.declared.LuOutcome.the-variants.{Factored, Singular}
 use Rattle.lu_factoring.specs.Solve.{division, inverse, whereFactored}
 use Rattle.functions_definitions.specs.Iterate.{after, verdict, ended}
-use Rattle.functions_definitions.specs.Roots.{rootTolerance, Pair, denmanBeaversNext, denmanBeaversStep, denmanBeavers, squareRoot}
+use Rattle.functions_definitions.specs.Roots.{rootTolerance, passLimit, Pair, denmanBeaversNext, denmanBeaversStep, denmanBeavers, squareRoot}
 use Rattle.functions_roots.specs.Kernels.{asStep, tested, answered, OnePass, Passes, SlotQuotient, pairIn, Means, SecondInverse}
 use Rattle.functions_roots.specs.declared.pass.Pass.{Pass}
 use Rattle.functions_roots.specs.declared.pass.Pass.the-variants.{Failed}
@@ -118,12 +118,12 @@ module _ (f : Format) (n : ℕ) (w₀ : List Float) (r : Room n w₀) where
   pub root-number : (v : Float) (w1 : List Float) → n ≡ 1 → v ≡ sqrtOf f (item w₀ 0) → w1 ≡ set w₀ 0 v → Replaced used n (squareRoot f n (slot n w₀ 0)) (Done 0) w₀ w1
   root-number v w1 e ev ew = rw e (number v w1 ev ew)
 
-  module _ (w1 w2 : List Float) (p : Pass) (two : n ≡ 1 → ⊥) (e1 : w1 ≡ store w₀ 1 (identityM n)) (P : Passes (λ _. denmanBeaversStep f n) 100 (pairIn n) used p w1 w2) where
-    passes : asStep p (pairIn n w2) ≡ denmanBeavers f n (slot n w₀ 0) 100
+  module _ (w1 w2 : List Float) (p : Pass) (two : n ≡ 1 → ⊥) (e1 : w1 ≡ store w₀ 1 (identityM n)) (P : Passes (λ _. denmanBeaversStep f n) passLimit (pairIn n) used p w1 w2) where
+    passes : asStep p (pairIn n w2) ≡ denmanBeavers f n (slot n w₀ 0) passLimit
     unfolding denmanBeavers
     passes =
         let s1 = step-identity n (r .order) 1 (start (member used) n r) e1 refl refl in
-        P .step ∙ (λ i. after (λ _. denmanBeaversStep f n) (record { y = held-at 0 n s1 refl i; z = held-at 1 n s1 refl i }) 100)
+        P .step ∙ (λ i. after (λ _. denmanBeaversStep f n) (record { y = held-at 0 n s1 refl i; z = held-at 1 n s1 refl i }) passLimit)
 
     changed : Only (member used) w₀ w2
     changed = only-trans (step-identity n (r .order) 1 (start (member used) n r) e1 refl refl .only) (P .only)

@@ -1,7 +1,6 @@
 // The square root of a matrix and its derivative.
 mod calls;
 pub mod division;
-mod number;
 pub mod pass;
 mod root_derivative;
 mod square_root;
@@ -11,5 +10,3 @@ pub use calls::frechet_sqrtm;
 pub use calls::frechet_sqrtm_with;
 pub use calls::sqrtm;
 pub use calls::sqrtm_with;
-pub use number::frechet_sqrtm_of_number;
-pub use number::sqrtm_of_number;

@@ -4,7 +4,7 @@ ghost use mathlib.Core.List.{[], _∷_};
 ghost use lib.Ieee.{binary64};
 ghost use Rattle.arithmetic_matrices.specs.Workspace.{Room, slot};
 ghost use Rattle.arithmetic_questions.specs.Kernels.{Replaced};
-ghost use Rattle.functions_definitions.specs.Roots.{denmanBeaversStep, squareRoot};
+ghost use Rattle.functions_definitions.specs.Roots.{passLimit, denmanBeaversStep, squareRoot};
 ghost use Rattle.functions_roots.specs.Kernels.{OnePass, Passes, pairIn, Means, SecondInverse};
 use crate::division::divide_slot;
 use crate::pass::Pass;
@@ -61,7 +61,7 @@ fn root_pass(w: &mut [f64], n: usize) -> Pass
 // At most 100 passes.
 fn root_passes(w: &mut [f64], n: usize) -> Pass
     requires { ⌜ Room n (now w) ⌝ }
-    ensures { λ r. ⌜ Passes (λ _. denmanBeaversStep binary64 n) 100 (pairIn n) (0 ∷ 1 ∷ 2 ∷ 3 ∷ 4 ∷ 5 ∷ []) r (now (w .entry)) (now (w .exit)) ⌝ }
+    ensures { λ r. ⌜ Passes (λ _. denmanBeaversStep binary64 n) passLimit (pairIn n) (0 ∷ 1 ∷ 2 ∷ 3 ∷ 4 ∷ 5 ∷ []) r (now (w .entry)) (now (w .exit)) ⌝ }
 {
     let mut i: u64 = 0;
     while i < 100 {

@@ -1,5 +1,5 @@
-// The matrix of the system S X + X S' = E, where S' is the transpose of S: n by n blocks of order n. Block (p, q) has S where p is q, and s(p, q) is added on
-// its diagonal.
+// The matrix of the system S X + X S' = E, where S' is the transpose of S: n by n blocks of order n. Entry (r, c) of block (p, q) is +0, plus s(r, c) where
+// p is q, plus s(p, q) where r is c.
 ghost use mathlib.Core.Path.{_≡_};
 ghost use Prim.Native.Nat.{_+_, _*_, _<_, _≤_};
 ghost use lib.ListN.{length};
@@ -7,8 +7,7 @@ ghost use lib.Ieee.{binary64};
 ghost use Rattle.arithmetic_floats.specs.Float.{+zero};
 ghost use Rattle.arithmetic_matrices.specs.Matrix.{tab, grid, at, put};
 ghost use Rattle.arithmetic_matrices.specs.Kernels.{blockRow};
-ghost use Rattle.functions_definitions.specs.Derivatives.{sylvesterEntry, sylvesterMatrix};
-ghost use Rattle.functions_roots.specs.Kernels.{addedWhere};
+ghost use Rattle.functions_definitions.specs.Derivatives.{addedWhere, sylvesterEntry, sylvesterMatrix};
 use arithmetic_matrices::matrix::entry;
 
 // x, with v added to it where i is j.

@@ -75,16 +75,16 @@ module _ (f : Format) (n : ℕ) (a w : List Float) (size : length a ≡ n * n) (
 
 -- ---- compute
 
-module _ (f : Format) (rows columnsDone : ℕ) (a : List Float) (fs : List Float) (ps : List ℕ) (w : List Float) (q : Question)
-    (h : found q ≡ asked ofCompute (computeCall rows columnsDone a ps (length fs) (length w))) (o : Outcome) where
+module _ (f : Format) (rows columns : ℕ) (a : List Float) (fs : List Float) (ps : List ℕ) (w : List Float) (q : Question)
+    (h : found q ≡ asked ofCompute (computeCall rows columns a ps (length fs) (length w))) (o : Outcome) where
   whole : Result Factorisation
   whole = factorised (luOutcome f rows a) (record { factors = luFactors f rows a; pivotRows = luPivots f rows a })
 
   -- a question refuses: all is as it was lent
-  pub compute-refused : (x : Refusal) → q ≡ No x → reported o ≡ numbered x → Computed (compute f rows columnsDone a ps (length fs) (length w)) o fs fs ps ps w w
+  pub compute-refused : (x : Refusal) → q ≡ No x → reported o ≡ numbered x → Computed (compute f rows columns a ps (length fs) (length w)) o fs fs ps ps w w
   unfolding compute whole
   compute-refused x e k =
-      let c = computeCall rows columnsDone a ps (length fs) (length w) in
+      let c = computeCall rows columns a ps (length fs) (length w) in
       record {
         outcome = k ∙ sym (outcome-no ofCompute c whole q h x e);
         factors = sym (exit-no ofCompute c whole q h x e (λ (l : Factorisation). l .factors) fs);
@@ -94,10 +94,10 @@ module _ (f : Format) (rows columnsDone : ℕ) (a : List Float) (fs : List Float
 
   -- none does: LU decides
   pub compute-done : (fs′ : List Float) (ps′ : List ℕ) (w1 w2 : List Float) (r : LuOutcome) → q ≡ Passed → 8192 ≤ length w → Computing f rows a fs fs′ ps ps′ w w1 r
-      → w2 ≡ cleared w1 → reported o ≡ luReport r → Computed (compute f rows columnsDone a ps (length fs) (length w)) o fs fs′ ps ps′ w w2
+      → w2 ≡ cleared w1 → reported o ≡ luReport r → Computed (compute f rows columns a ps (length fs) (length w)) o fs fs′ ps ps′ w w2
   unfolding compute whole outcome exit workspace
   compute-done fs′ ps′ w1 w2 r e room d v k =
-      let c = computeCall rows columnsDone a ps (length fs) (length w) in
+      let c = computeCall rows columns a ps (length fs) (length w) in
       rw (answer-passed ofCompute c whole q h e)
       (go (luOutcome f rows a) (d .factors ∙ ap (λ (z : LuOutcome). standIn z (luFactors f rows a) fs) (d .outcome)) (d .pivots ∙ ap (λ (z : LuOutcome). standIn z (luPivots f rows a) ps) (d .outcome)) (k ∙ ap luReport (d .outcome)))
     where

@@ -11,12 +11,12 @@ use lib.ListN.{length, getD, drop, drop-of-length-le}
 use lib.Seq.{drop-cons}
 use borrow.Author.Tests.{leb-true, ltb-true, eqb-true}
 use lib.Ieee.{Float}
-use Rattle.arithmetic_questions.specs.Result.{refused, _>>=_, passes, ask, firstNo}
-use Rattle.arithmetic_questions.specs.Questions.{pivotsFrom, pivotsNamed, directed, numberQuestions, asked, companionFits, atMost, limited, exactly, hasCompanion, hasPivots, outputLength, lengths, roomy, shapeQuestions, ofCompute, ofSolve, ofDeterminant}
+use Rattle.arithmetic_questions.specs.Result.{Found, refused, _>>=_, passes, ask, firstNo}
+use Rattle.arithmetic_questions.specs.Questions.{atMost, exactly, atLeast8192, pivotsFrom, shapeQuestions, numberQuestions, asked, ofCompute, ofSolve, ofDeterminant}
 use Rattle.arithmetic_questions.specs.Answers.{found}
 use Rattle.arithmetic_questions.specs.declared.answer.Question.{Question}
 use Rattle.arithmetic_questions.specs.declared.answer.Question.the-variants.{Passed}
-use Rattle.arithmetic_questions.proofs.QuestionLaws.{Found, told, Yes, Each, all-yes, ask-yes, at-most-yes, exactly-yes}
+use Rattle.arithmetic_questions.proofs.QuestionLaws.{told, Yes, Each, all-yes, ask-yes, at-most-yes, exactly-yes}
 use Rattle.lu.specs.Calls.{computeCall, solveCall, determinantCall}
 
 -- ---- 9: the pivots, one at a time
@@ -71,26 +71,23 @@ sizes rows columns entries pivots height width right out =
 module _ (rows columns : ℕ) (a : List Float) (ps : List ℕ) where
   pub compute-asked :
       (factors room : ℕ) → asked ofCompute (computeCall rows columns a ps factors room)
-      ≡ firstNo (system rows columns (length a) (length ps) ++ (exactly (rows * columns) factors ∷ roomy room ∷ []))
-  unfolding asked firstNo _>>=_ shapeQuestions numberQuestions companionFits limited lengths hasCompanion hasPivots outputLength directed pivotsNamed
+      ≡ firstNo (system rows columns (length a) (length ps) ++ (exactly (rows * columns) factors ∷ atLeast8192 room ∷ []))
+  unfolding asked firstNo _>>=_ shapeQuestions numberQuestions
   compute-asked factors room = refl
 
   pub determinant-asked :
       asked ofDeterminant (determinantCall rows columns a ps)
       ≡ firstNo (system rows columns (length a) (length ps) ++ (pivotsFrom rows 0 ps ∷ []))
-  unfolding asked firstNo _>>=_ shapeQuestions numberQuestions companionFits limited lengths hasCompanion hasPivots outputLength directed pivotsNamed
+  unfolding asked firstNo _>>=_ shapeQuestions numberQuestions
   determinant-asked = refl
 
   pub solve-asked :
       (height width : ℕ) (b : List Float) (out : ℕ) → asked ofSolve (solveCall rows columns a ps height width b out)
       ≡ firstNo ((sides rows columns height width ++ sizes rows columns (length a) (length ps) height width (length b) out) ++ (pivotsFrom rows 0 ps ∷ []))
-  unfolding asked firstNo _>>=_ shapeQuestions numberQuestions companionFits limited lengths hasCompanion hasPivots outputLength directed pivotsNamed
+  unfolding asked firstNo _>>=_ shapeQuestions numberQuestions
   solve-asked height width b out = refl
 
 -- ---- no product of two numbers up to 64 is too large
-
-pub product64 : (x y : ℕ) → x ≤ 64 → y ≤ 64 → x * y ≤ 4096
-product64 x y h k = mul-le-mul {n₁ = x} {m₁ = y} {n₂ = 64} {m₂ = 64} h k
 
 square-yes : (rows columns : ℕ) → Yes (ask (eqb rows columns) 2 rows columns) → rows ≡ columns
 square-yes rows columns h = eqb-true rows columns (ask-yes _ 2 rows columns h)
@@ -99,7 +96,8 @@ pub square64 : (rows columns : ℕ) → Yes (ask (eqb rows columns) 2 rows colum
 square64 rows columns h k =
     let e : rows ≡ columns = square-yes rows columns h in
     let l : rows ≤ 64 = at-most-yes 64 rows k in
-    product64 rows columns l (omega arith)
+    let m : columns ≤ 64 = omega arith in
+    mul-le-mul l m
 
 height-yes : (rows height width : ℕ) → Yes (ask (eqb height rows) 3 height width) → height ≡ rows
 height-yes rows height width h = eqb-true height rows (ask-yes _ 3 height width h)
@@ -111,7 +109,8 @@ sides64 rows columns height width s =
     let e : height ≡ rows = height-yes rows height width (s .1 .0) in
     let l : rows ≤ 64 = at-most-yes 64 rows (s .1 .1 .0) in
     let m : width ≤ 64 = at-most-yes 64 width (s .1 .1 .1 .0) in
-    (square64 rows columns (s .0) (s .1 .1 .0), product64 height width (omega arith) m, product64 rows width l m)
+    let k : height ≤ 64 = omega arith in
+    (square64 rows columns (s .0) (s .1 .1 .0), mul-le-mul k m, mul-le-mul l m)
 
 -- ---- what a call is known to be once its questions passed
 

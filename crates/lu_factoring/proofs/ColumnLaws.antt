@@ -84,36 +84,36 @@ module _ (n m j : ℕ) (x b : List Float) where
 
 -- the first j columns of b are replaced by their solutions
 unfoldable pub solvedTo : Format → ℕ → ℕ → List Float → List ℕ → List Float → ℕ → List Float
-solvedTo g n m F ps b j = grid n m (λ r c. cond (ltb c j) (item (solved g n F ps (column n m b c)) r) (at m b r c))
+solvedTo f n m F ps b j = grid n m (λ r c. cond (ltb c j) (item (solved f n F ps (column n m b c)) r) (at m b r c))
 
-module _ (g : Format) (n m : ℕ) (F : List Float) (ps : List ℕ) (b : List Float) where
-  pub length-solvedTo : (j : ℕ) → length (solvedTo g n m F ps b j) ≡ n * m
+module _ (f : Format) (n m : ℕ) (F : List Float) (ps : List ℕ) (b : List Float) where
+  pub length-solvedTo : (j : ℕ) → length (solvedTo f n m F ps b j) ≡ n * m
   unfolding solvedTo
   length-solvedTo j = length-grid n m _
 
-  pub solved-none : length b ≡ n * m → b ≡ solvedTo g n m F ps b 0
+  pub solved-none : length b ≡ n * m → b ≡ solvedTo f n m F ps b 0
   unfolding solvedTo
   solved-none size = grid-is n m _ b size (λ r c u v. rw (le-ltb c 0 (omega arith)))
 
-  pub solved-all : solvedTo g n m F ps b m ≡ solvedMatrix g n m F ps b
+  pub solved-all : solvedTo f n m F ps b m ≡ solvedMatrix f n m F ps b
   unfolding solvedTo solvedMatrix
-  solved-all = grid-is n m _ (solvedTo g n m F ps b m) (length-solvedTo m) (λ r c u v. at-grid n m _ r c u v ∙ rw (lt-ltb c m v))
+  solved-all = grid-is n m _ (solvedTo f n m F ps b m) (length-solvedTo m) (λ r c u v. at-grid n m _ r c u v ∙ rw (lt-ltb c m v))
 
   -- column j is not solved yet
-  column-old : (j : ℕ) → j < m → column n m (solvedTo g n m F ps b j) j ≡ column n m b j
+  column-old : (j : ℕ) → j < m → column n m (solvedTo f n m F ps b j) j ≡ column n m b j
   unfolding column solvedTo
   column-old j h =
-      ext-getD nan (column n m (solvedTo g n m F ps b j) j) (column n m b j) (length-tab n _ ∙ sym (length-tab n _))
+      ext-getD nan (column n m (solvedTo f n m F ps b j) j) (column n m b j) (length-tab n _ ∙ sym (length-tab n _))
       (λ i u.
-      let e : length (column n m (solvedTo g n m F ps b j) j) ≡ n = length-tab n _ in
+      let e : length (column n m (solvedTo f n m F ps b j) j) ≡ n = length-tab n _ in
       let v : i < n = omega arith in
       getD-tab n _ i nan v ∙ at-grid n m _ i j v h ∙ rw (le-ltb j j (omega arith)) (sym (getD-tab n (λ r. at m b r j) i nan v)))
 
   pub solved-more : (j : ℕ) → j < m
-      → withColumn n m j (solved g n F ps (column n m (solvedTo g n m F ps b j) j)) (solvedTo g n m F ps b j) ≡ solvedTo g n m F ps b (j + 1)
+      → withColumn n m j (solved f n F ps (column n m (solvedTo f n m F ps b j) j)) (solvedTo f n m F ps b j) ≡ solvedTo f n m F ps b (j + 1)
   unfolding withColumn solvedTo
   solved-more j h =
-      grid-is n m _ (withColumn n m j (solved g n F ps (column n m k j)) k) (length-grid n m _)
+      grid-is n m _ (withColumn n m j (solved f n F ps (column n m k j)) k) (length-grid n m _)
       (λ r c u v.
       at-grid n m _ r c u v
       ∙ ⊎-elim (λ (s : c ≡ j). rw (s, eq-eqb j j refl, lt-ltb j (j + 1) (omega arith), column-old j h))
@@ -124,33 +124,33 @@ module _ (g : Format) (n m : ℕ) (F : List Float) (ps : List ℕ) (b : List Flo
       (same-or-not c j))
     where
       k : List Float
-      k = solvedTo g n m F ps b j
+      k = solvedTo f n m F ps b j
 
 -- ---- a system in a workspace
 
-module _ (g : Format) (n f : ℕ) (w : List Float) (ps : List ℕ) (w1 : List Float) (ps1 : List ℕ) (r : LuOutcome) (d : LuDoneIn g n f w ps w1 ps1 r) where
+module _ (f : Format) (n o : ℕ) (w : List Float) (ps : List ℕ) (w1 : List Float) (ps1 : List ℕ) (r : LuOutcome) (d : LuDoneIn f n o w ps w1 ps1 r) where
   -- where all columns pass, the factors and the pivots
-  pub in-factors : r ≡ Factored → w1 ≡ put w f (luFactors g n (part w f (n * n)))
+  pub in-factors : r ≡ Factored → w1 ≡ put w o (luFactors f n (part w o (n * n)))
   unfolding luFactors
-  in-factors all = d .factors ∙ ap (λ (o : LuOutcome). put w f (luAt g n (part w f (n * n)) (columnsDone n o))) all
+  in-factors all = d .factors ∙ ap (λ (z : LuOutcome). put w o (luAt f n (part w o (n * n)) (columnsDone n z))) all
 
-  pub in-pivots : r ≡ Factored → length ps ≡ n → ps1 ≡ luPivots g n (part w f (n * n))
+  pub in-pivots : r ≡ Factored → length ps ≡ n → ps1 ≡ luPivots f n (part w o (n * n))
   unfolding luPivots
-  in-pivots all e = d .pivots ∙ ap (λ (o : LuOutcome). patch 0 (columnsDone n o) (luPivot g n (part w f (n * n))) ps) all ∙ patch-all 0 n (luPivot g n (part w f (n * n))) ps e
+  in-pivots all e = d .pivots ∙ ap (λ (z : LuOutcome). patch 0 (columnsDone n z) (luPivot f n (part w o (n * n))) ps) all ∙ patch-all 0 n (luPivot f n (part w o (n * n))) ps e
 
   pub in-rows : r ≡ Factored → length ps ≡ n → (k : ℕ) → k < n → getD ps1 k 0 < n
-  in-rows all e k h = rw (in-pivots all e) (pivots-in g n (part w f (n * n)) k h .1)
+  in-rows all e k h = rw (in-pivots all e) (pivots-in f n (part w o (n * n)) k h .1)
 
-  pub divided-all : (m x : ℕ) (w2 : List Float) → r ≡ Factored → length ps ≡ n → f + n * n ≤ length w → Apart f (n * n) x (n * m)
-      → w2 ≡ put w1 x (solvedMatrix g n m (part w1 f (n * n)) ps1 (part w1 x (n * m))) → w2 ≡ divided g n m f x w Factored
+  pub divided-all : (m x : ℕ) (w2 : List Float) → r ≡ Factored → length ps ≡ n → o + n * n ≤ length w → Apart o (n * n) x (n * m)
+      → w2 ≡ put w1 x (solvedMatrix f n m (part w1 o (n * n)) ps1 (part w1 x (n * m))) → w2 ≡ divided f n m o x w Factored
   unfolding divided luFactors
   divided-all m x w2 all e hf apart e2 =
-      let a = part w f (n * n) in
-      let F = luFactors g n a in
-      let size : length F ≡ n * n = length-luAt g n a n (length-part w f (n * n)) in
+      let a = part w o (n * n) in
+      let F = luFactors f n a in
+      let size : length F ≡ n * n = length-luAt f n a n (length-part w o (n * n)) in
       e2
-      ∙ rw (in-factors all, in-pivots all e, part-put w f F (n * n) size hf, part-put-apart w f (n * n) F x (n * m) (apart-sym f (n * n) x (n * m) apart) (omega (arith, size)))
+      ∙ rw (in-factors all, in-pivots all e, part-put w o F (n * n) size hf, part-put-apart w o (n * n) F x (n * m) (apart-sym o (n * n) x (n * m) apart) (omega (arith, size)))
 
-  pub divided-none : (m x k : ℕ) → r ≡ Singular k → w1 ≡ divided g n m f x w (Singular k)
+  pub divided-none : (m x k : ℕ) → r ≡ Singular k → w1 ≡ divided f n m o x w (Singular k)
   unfolding divided
-  divided-none m x k e = d .factors ∙ ap (λ (o : LuOutcome). put w f (luAt g n (part w f (n * n)) (columnsDone n o))) e
+  divided-none m x k e = d .factors ∙ ap (λ (z : LuOutcome). put w o (luAt f n (part w o (n * n)) (columnsDone n z))) e

@@ -19,9 +19,9 @@ use Rattle.arithmetic_floats.proofs.Order.{split}
 use Rattle.arithmetic_floats.proofs.Zero.{zeroOf, Zero, mul-zero-left, sub-zeros}
 use Rattle.arithmetic_matrices.proofs.MatrixLaws.{at-grid}
 use Rattle.arithmetic_matrices.proofs.Corner.{Corner}
-use Rattle.lu_factoring.specs.Lu.{pivotAmong, pivotRow, tolerance, pivotRefused, exchange, swapRows, multiplier, reduced, eliminated, luAt, luPivot, luFrom, luOutcome, luFactors}
+use Rattle.lu_factoring.specs.Lu.{pivotAmong, pivotRow, tolerance, pivotRefused, exchange, swapRows, pivotReciprocal, reduced, eliminatedEntry, eliminated, luAt, luPivot, luFrom, luOutcome, luFactors}
 use Rattle.lu_factoring.specs.Finite.{FiniteColumn, FiniteFactors}
-use Rattle.lu_factoring.proofs.LuLaws.{pivot-from, exchange-in, exchange-other}
+use Rattle.lu_factoring.proofs.LuLaws.{pivot-from, pivotRow-in, exchange-in, exchange-other}
 use Rattle.lu_factoring.specs.declared.LuOutcome.{LuOutcome}
 use Rattle.lu_factoring.specs.declared.LuOutcome.the-variants.{Factored, Singular}
 
@@ -84,8 +84,8 @@ abbrev entryAfter : Format → ℕ → ℕ → ℕ → Float → Float → Float
 entryAfter f k i j x l d u = cond (ltb k i) (cond (ltb j k) x (cond (eqb j k) (mul f l (div f one d)) (sub f x (mul f (mul f l (div f one d)) u)))) x
 
 at-eliminated : (f : Format) (n k : ℕ) (m : List Float) (i j : ℕ) → i < n → j < n → at n (eliminated f n k m) i j ≡ entryAfter f k i j (at n m i j) (at n m i k) (at n m k k) (at n m k j)
-unfolding eliminated reduced multiplier
-at-eliminated f n k m i j I J = at-grid n n (λ i j. cond (ltb k i) (reduced f n k (div f one (at n m k k)) m i j) (at n m i j)) i j I J
+unfolding eliminated eliminatedEntry reduced
+at-eliminated f n k m i j I J = at-grid n n (eliminatedEntry f n k (pivotReciprocal f n k m) m) i j I J
 
 -- an entry left of the column is left alone
 entry-left : (f : Format) (k i j : ℕ) (x l d u : Float) → j < k → entryAfter f k i j x l d u ≡ x
@@ -189,7 +189,7 @@ module _ (f : Format) (n N : ℕ) (n≤N : n ≤ N) where
         let J' : j < N = lt-of-lt-of-le J n≤N in
         let h : k < i = lt-of-lt-of-le K l in
         subst Zero (sym (at-eliminated f N k M i j u J'))
-        (entry-zero f k i j (at N M i j) (at N M i k) (at N M k k) (at N M k j) (c .below i j l u J) (c .below i k l u K) (ok .multiplier i h u) (λ g. ok .update i j h u g J'));
+        (entry-zero f k i j (at N M i j) (at N M i k) (at N M k k) (at N M k j) (c .below i j l u J) (c .below i k l u K) (ok .multipliers i h u) (λ g. ok .multiples i j h u g J'));
   }
 
   eliminated-late : (k : ℕ) → n ≤ k → (m M : List Float) → Corner n N m M → Corner n N m (eliminated f N k M)
@@ -208,14 +208,6 @@ module _ (f : Format) (n N : ℕ) (n≤N : n ≤ N) where
       among-tail N M k (n - suc k) (N - suc k) (fewer k n N n≤N) (λ i l u. c .below i k (first-row k n i K l) (last-row k N i (lt-of-lt-of-le K n≤N) u) K)
       ∙ among-same N n M m k (λ i l. c .same i k l K) (n - suc k) (last-row k n (k + (n - suc k)) K (le-refl (k + (n - suc k))))
 
-  pivotRow-lt : (k m : ℕ) → k < m → (a : List Float) → pivotRow m a k < m
-  unfolding pivotRow
-  pivotRow-lt k m K a = last-row k m (pivotAmong m a k (m - suc k)) K (pivot-from m a k (m - suc k) .1)
-
-  pivotRow-ge : (k m : ℕ) (a : List Float) → k ≤ pivotRow m a k
-  unfolding pivotRow
-  pivotRow-ge k m a = pivot-from m a k (m - suc k) .0
-
   module _ (a A : List Float) (c : Corner n N a A) (ok : FiniteFactors f N A) where
     -- the first n columns
     pub lu-early : (k : ℕ) → k ≤ n → Corner n N (luAt f n a k) (luAt f N A k)
@@ -227,7 +219,7 @@ module _ (f : Format) (n N : ℕ) (n≤N : n ≤ N) where
         let ih : Corner n N m M = lu-early k (le-trans (le-suc k) h) in
         let e : pivotRow N M k ≡ pivotRow n m k = pivotRow-corner k h m M ih in
         eliminated-corner k h (swapRows n k (pivotRow n m k) m) (swapRows N k (pivotRow N M k) M)
-        (subst (λ (p : ℕ). Corner n N (swapRows n k (pivotRow n m k) m) (swapRows N k p M)) (sym e) (swap-corner k (pivotRow n m k) h (pivotRow-lt k n h m) m M ih))
+        (subst (λ (p : ℕ). Corner n N (swapRows n k (pivotRow n m k) m) (swapRows N k p M)) (sym e) (swap-corner k (pivotRow n m k) h (pivotRow-in n m k h .1) m M ih))
         (unfold luPivot in ok k (lt-of-lt-of-le h n≤N))
 
     -- the others
@@ -239,7 +231,7 @@ module _ (f : Format) (n N : ℕ) (n≤N : n ≤ N) where
             let m = luAt f n a n in
             let M = luAt f N A k in
             unfold luAt in eliminated-late k K m (swapRows N k (pivotRow N M k) M)
-            (swap-late k (pivotRow N M k) K h (le-trans K (pivotRow-ge k N M)) (pivotRow-lt k N h M) m M (ih (le-trans (le-suc k) h)))
+            (swap-late k (pivotRow N M k) K h (le-trans K (pivotRow-in N M k h .0)) (pivotRow-in N M k h .1) m M (ih (le-trans (le-suc k) h)))
 
     pub factors-corner : Corner n N (luFactors f n a) (luFactors f N A)
     unfolding luFactors
@@ -259,7 +251,7 @@ module _ (f : Format) (n N : ℕ) (n≤N : n ≤ N) where
           let M = luAt f N A k in
           let ih : Corner n N m M = lu-early k (le-of-lt h) in
           let x = at n m (pivotRow n m k) k in
-          let e : at N M (pivotRow N M k) k ≡ x = ap (λ (p : ℕ). at N M p k) (pivotRow-corner k h m M ih) ∙ ih .same (pivotRow n m k) k (pivotRow-lt k n h m) h in
+          let e : at N M (pivotRow N M k) k ≡ x = ap (λ (p : ℕ). at N M p k) (pivotRow-corner k h m M ih) ∙ ih .same (pivotRow n m k) k (pivotRow-in n m k h .1) h in
           let t' : le (magnitude x) (tolerance f N) ≡ false = subst (λ (y : Float). le (magnitude y) (tolerance f N) ≡ false) e t in
           is-false (le (magnitude x) (tolerance f n)) (not-T (le (magnitude x) (tolerance f n)) (λ u. subst T t' (tol x u)))
 

@@ -1,5 +1,6 @@
 -- Laws that the proofs of this crate and of the crates above cite.
 pub mod LuLaws
+pub mod LuLoop
 pub mod SolveLaws
 pub mod ColumnLaws
 pub mod RowLaws

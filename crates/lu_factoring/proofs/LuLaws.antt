@@ -8,18 +8,18 @@ use native.Mathlib.Omega.{arith}
 use mathlib.Core.Logic.{⊎-elim}
 use lib.ListN.{length, set, getD, take, drop, length-set}
 use borrow.Rule.Slice.PartMut.{putMid}
-use lib.Dec.{ltb, eqb}
-use lib.Ieee.{Float, nan, Format, lt, le, mul, sub, div}
+use lib.Dec.{eqb}
+use lib.Ieee.{Float, nan, Format, lt, le, mul, sub}
 use lib.Seq.{getD-set-other}
 use borrow.Author.Tests.{lt-ltb, le-ltb, le-leb, lt-leb, eq-eqb, ne-eqb}
-use Rattle.arithmetic_floats.specs.Float.{magnitude, one}
+use Rattle.arithmetic_floats.specs.Float.{magnitude}
 use Rattle.arithmetic_matrices.specs.Matrix.{at, part, put}
 use Rattle.arithmetic_matrices.specs.Kernels.{withRow, rowTo, rowsTo, patch}
 use Rattle.arithmetic_floats.proofs.Order.{split, same-or-not}
 use Rattle.arithmetic_matrices.proofs.MatrixLaws.{getD-tab, index-lt, length-grid, at-set-same, at-set-other}
 use Rattle.arithmetic_matrices.proofs.PatchLaws.{patch-is, patch-more, patch-in, patch-below, patch-above, length-patch, row-none, row-more, row-skip, row-right, row-above, rows-none, rows-skip, rows-more, rows-all, rows-new, rows-old}
 use Rattle.arithmetic_matrices.proofs.PartLaws.{lent, returned, length-part}
-use Rattle.lu_factoring.specs.Lu.{pivotAmong, exchange, swapRows, reduced, eliminated, tolerance, pivotRefused, pivotRow, luAt, luPivot, luFrom, luOutcome, luPivots, multiplier}
+use Rattle.lu_factoring.specs.Lu.{pivotAmong, exchange, swapRows, pivotReciprocal, reduced, eliminatedEntry, eliminated, tolerance, pivotRefused, pivotRow, luAt, luPivot, luFrom, luOutcome, luPivots}
 use Rattle.lu_factoring.specs.Kernels.{subtracted, columnsDone, LuDone, LuDoneIn}
 use Rattle.lu_factoring.specs.declared.LuOutcome.{LuOutcome}
 use Rattle.lu_factoring.specs.declared.LuOutcome.the-variants.{Factored, Singular}
@@ -88,7 +88,7 @@ module _ (f : Format) (n k i : ℕ) (x : Float) (a : List Float) where
 -- the row with its multiplier stored first
 pub reduce-row : (f : Format) (n k i : ℕ) (t x : Float) (a : List Float) → k < i → i < n → length a ≡ n * n → x ≡ mul f (at n a i k) t
     → withRow n i (subtracted f n k i x (set a (i * n + k) x)) (set a (i * n + k) x) ≡ withRow n i (reduced f n k t a i) a
-unfolding withRow rowTo reduced subtracted multiplier
+unfolding withRow rowTo reduced subtracted
 reduce-row f n k i t x a hk hi size ex =
     patch-is nan (i * n) (i * n + n) (λ q. reduced f n k t a i (q - i * n)) a (patch (i * n) (i * n + n) (λ q. h (q - i * n)) b) (length-patch (i * n) (i * n + n) (λ q. h (q - i * n)) b ∙ same)
     (λ q u v w. patch-in (i * n) (i * n + n) (λ q. h (q - i * n)) b q nan u v (rw same w) ∙ entry (q - i * n) (omega arith))
@@ -127,12 +127,8 @@ reduce-is f n k i t u x a a1 a2 hk hi size eu ex e1 e2 = e2 ∙ rw e1 (reduce-ro
 -- an entry of the row depends on its own row and on row k alone
 pub reduced-same : (f : Format) (n k : ℕ) (t : Float) (a b : List Float) (i j : ℕ)
     → at n a i k ≡ at n b i k → at n a i j ≡ at n b i j → at n a k j ≡ at n b k j → reduced f n k t a i j ≡ reduced f n k t b i j
-unfolding reduced multiplier
+unfolding reduced
 reduced-same f n k t a b i j p q r = rw (p, q, r)
-
--- the matrix after the elimination, t being the reciprocal of the pivot
-unfoldable pub eliminatedEntry : Format → ℕ → ℕ → Float → List Float → ℕ → ℕ → Float
-eliminatedEntry f n k t a i j = cond (ltb k i) (reduced f n k t a i j) (at n a i j)
 
 module _ (f : Format) (n k : ℕ) (t : Float) (a : List Float) where
   pub eliminate-none : a ≡ rowsTo n (eliminatedEntry f n k t a) a (k + 1)
@@ -158,7 +154,7 @@ module _ (f : Format) (n k : ℕ) (t : Float) (a : List Float) where
       same : (c : ℕ) → c < n → reduced f n k t (rowsTo n F a i) i c ≡ F i c
       same c u = reduced-same f n k t (rowsTo n F a i) a i c (old k (omega arith)) (old c u) (top c u) ∙ rw (lt-ltb k i hk)
 
-  pub eliminate-all : length a ≡ n * n → t ≡ div f one (at n a k k) → rowsTo n (eliminatedEntry f n k t a) a n ≡ eliminated f n k a
+  pub eliminate-all : length a ≡ n * n → t ≡ pivotReciprocal f n k a → rowsTo n (eliminatedEntry f n k t a) a n ≡ eliminated f n k a
   unfolding eliminated eliminatedEntry
   eliminate-all size e = rows-all n (eliminatedEntry f n k t a) a n size ∙ rw e
 
@@ -185,7 +181,7 @@ module _ (f : Format) (n : ℕ) (a : List Float) where
   unfolding pivotRefused
   refused-is k p m u v t b e ep eu ev et h = rw (← e, ← ep, ← eu, ← ev, ← et) h
 
-  -- a column that passes, one that is pivotRefused, and no column left
+  -- a column that passes, one that is refused, and no column left
   pub pass : (k : ℕ) → k < n → pivotRefused f n (luAt f n a k) k ≡ false → luOutcome f n a ≡ luFrom f n a (n - k) k → luOutcome f n a ≡ luFrom f n a (n - (k + 1)) (k + 1)
   unfolding luFrom
   pass k h t e =
@@ -212,9 +208,9 @@ length-luAt f n a zero e = e
 length-luAt f n a (suc k) e = length-eliminated f n k _
 
 -- a matrix that stands in w from index off, lent as a part of w and given back
-pub done-in : (f : Format) (n off : ℕ) (w : List Float) (ps : List ℕ) (m : List Float) (ps' : List ℕ) (r : LuOutcome) → off + n * n ≤ length w
-    → LuDone f n (take (off + n * n - off) (drop off w)) ps m ps' r → LuDoneIn f n off w ps (putMid off (off + n * n - off) w m) ps' r
-done-in f n off w ps m ps' r h d =
+pub done-in : (f : Format) (n off : ℕ) (w : List Float) (ps : List ℕ) (m : List Float) (ps′ : List ℕ) (r : LuOutcome) → off + n * n ≤ length w
+    → LuDone f n (take (off + n * n - off) (drop off w)) ps m ps′ r → LuDoneIn f n off w ps (putMid off (off + n * n - off) w m) ps′ r
+done-in f n off w ps m ps′ r h d =
     let e = lent w off (n * n) h in
     let e' : m ≡ luAt f n (part w off (n * n)) (columnsDone n r) = d .factors ∙ ap (λ (a : List Float). luAt f n a (columnsDone n r)) e in
     let size : length m ≡ n * n = ap length e' ∙ length-luAt f n (part w off (n * n)) (columnsDone n r) (length-part w off (n * n)) in
@@ -224,7 +220,7 @@ done-in f n off w ps m ps' r h d =
       pivots = d .pivots ∙ ap (λ (a : List Float). patch 0 (columnsDone n r) (luPivot f n a) ps) e;
     }
 
--- the pivot of column k is a row from k to n - 1
+-- the row found among the rows from k to k + d is one of them
 pub pivot-from : (n : ℕ) (a : List Float) (k d : ℕ) → (k ≤ pivotAmong n a k d) × (pivotAmong n a k d ≤ k + d)
 unfolding pivotAmong
 pivot-from n a k zero = (omega arith, omega arith)
@@ -235,11 +231,12 @@ pivot-from n a k (suc d) = go (lt (magnitude (at n a (pivotAmong n a k d) k)) (m
     go true h = (omega arith, omega arith)
     go false h = (omega arith, omega arith)
 
-pub pivot-in : (f : Format) (n : ℕ) (a : List Float) (k : ℕ) → k < n → (k ≤ luPivot f n a k) × (luPivot f n a k < n)
-unfolding luPivot pivotRow
-pivot-in f n a k h = let p = pivot-from n (luAt f n a k) k (n - suc k) in (p .0, omega arith)
+-- the pivot of column k is a row from k to n - 1
+pub pivotRow-in : (n : ℕ) (a : List Float) (k : ℕ) → k < n → (k ≤ pivotRow n a k) × (pivotRow n a k < n)
+unfolding pivotRow
+pivotRow-in n a k h = let p = pivot-from n a k (n - suc k) in (p .0, omega arith)
 
 -- each pivot of the list is a row from its column down
 pub pivots-in : (f : Format) (n : ℕ) (a : List Float) (k : ℕ) → k < n → (k ≤ getD (luPivots f n a) k 0) × (getD (luPivots f n a) k 0 < n)
-unfolding luPivots
-pivots-in f n a k h = rw (getD-tab n (luPivot f n a) k 0 h) (pivot-in f n a k h)
+unfolding luPivots luPivot
+pivots-in f n a k h = rw (getD-tab n (luPivot f n a) k 0 h) (pivotRow-in n (luAt f n a k) k h)

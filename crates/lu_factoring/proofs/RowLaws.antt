@@ -34,6 +34,19 @@ set-put-in w x [] i v h = absurd (omega arith)
 set-put-in w x (a ∷ xs) zero v h = rw add-zero (set-put-apart (set w x a) (suc x) xs x v (inl (omega arith)) ∙ ap (λ (l : List Float). put l (suc x) xs) (set-set w x a v))
 set-put-in w x (a ∷ xs) (suc i) v h = let e : x + suc i ≡ suc x + i = omega arith in rw e (set-put-in (set w x a) (suc x) xs i v (omega arith))
 
+-- a part of w₀ is changed in steps: it is M in w, and N in w1 after one step more
+pub part-turn : (x c : ℕ) (w₀ w w1 M N : List Float) (g : List Float → List Float) → x + c ≤ length w₀ → length M ≡ c → length N ≡ c → w ≡ put w₀ x M → w1 ≡ put w x (g (part w x c)) → g M ≡ N
+    → w1 ≡ put w₀ x N
+part-turn x c w₀ w w1 M N g room size long e e1 turn =
+    e1
+    ∙ (λ i. put (e i) x (g ((ap (λ (v : List Float). part v x c) e ∙ part-put w₀ x M c size room) i)))
+    ∙ ap (put (put w₀ x M) x) turn
+    ∙ put-put w₀ x M N (size ∙ sym long) (omega arith)
+
+-- and a part apart from it is as it was
+pub part-kept : (o d x c : ℕ) (w₀ w M : List Float) → Apart o d x c → length M ≡ c → w ≡ put w₀ x M → part w o d ≡ part w₀ o d
+part-kept o d x c w₀ w M apart size e = ap (λ (v : List Float). part v o d) e ∙ part-put-apart w₀ x c M o d apart (omega arith)
+
 -- two parts change places: the first j numbers, and one more
 pub swap-part-more : (w : List Float) (x y m j : ℕ) (u : List Float) → Apart x m y m → j < m → u ≡ put (put w x (part w y j)) y (part w x j)
     → set (set u (x + j) (item u (y + j))) (y + j) (item u (x + j)) ≡ put (put w x (part w y (j + 1))) y (part w x (j + 1))
@@ -116,25 +129,12 @@ module _ (x n m : ℕ) (h : List Float → List Float) (w₀ w : List Float) (ro
   pub each-turn : (g k : List Float → List Float) (w1 : List Float) → ((l : List Float) → length l ≡ n → length (h l) ≡ n) → ((l : List Float) → length l ≡ n → g (h l) ≡ k l)
       → w1 ≡ put w x (eachColumn n m g (part w x (n * m))) → w1 ≡ put w₀ x (eachColumn n m k (part w₀ x (n * m)))
   each-turn g k w1 size same e1 =
-      e1
-      ∙ (λ i. put (e i) x (eachColumn n m g (b' i)))
-      ∙ put-put w₀ x M (eachColumn n m g M) (length-each n m h b ∙ sym (length-each n m g M)) (omega (arith, length-each n m g M))
-      ∙ ap (put w₀ x) (each-each n m g h k b size same)
-    where
-      b : List Float
-      b = part w₀ x (n * m)
-
-      M : List Float
-      M = eachColumn n m h b
-
-      b' : part w x (n * m) ≡ M
-      b' = ap (λ (v : List Float). part v x (n * m)) e ∙ part-put w₀ x M (n * m) (length-each n m h b) room
+      let b = part w₀ x (n * m) in
+      part-turn x (n * m) w₀ w w1 (eachColumn n m h b) (eachColumn n m k b) (eachColumn n m g) room (length-each n m h b) (length-each n m k b) e e1 (each-each n m g h k b size same)
 
   -- the factors apart from it are as they were
-  pub factors-kept : (f : ℕ) → Apart f (n * n) x (n * m) → part w f (n * n) ≡ part w₀ f (n * n)
-  factors-kept f apart =
-      ap (λ (v : List Float). part v f (n * n)) e
-      ∙ part-put-apart w₀ x (n * m) (eachColumn n m h (part w₀ x (n * m))) f (n * n) apart (omega (arith, length-each n m h (part w₀ x (n * m))))
+  pub factors-kept : (o : ℕ) → Apart o (n * n) x (n * m) → part w o (n * n) ≡ part w₀ o (n * n)
+  factors-kept o apart = part-kept o (n * n) x (n * m) w₀ w (eachColumn n m h (part w₀ x (n * m))) apart (length-each n m h (part w₀ x (n * m))) e
 
 -- ---- rows
 

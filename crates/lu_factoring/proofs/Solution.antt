@@ -114,7 +114,7 @@ module _ (f : Format) (n N : ℕ) (n≤N : n ≤ N) where
                 subst Zero (sym (item-tab N (λ i. cond (ltb k i) (sub f (item Y i) (mul f (at N M i k) (item Y k))) (item Y i)) i u))
                 (pick Zero (ltb k i) (sub f (item Y i) (mul f (at N M i k) (item Y k))) (item Y i)
                 (λ t. sub-zeros f (item Y i) (mul f (at N M i k) (item Y k)) (ih .below i l u)
-                (mul-zero-left f (at N M i k) (item Y k) (d .below i k l u h) (ok k i (lt-of-lt-of-le h l) u .0)))
+                (mul-zero-left f (at N M i k) (item Y k) (d .below i k l u h) (ok k (up-to h) .terms i (lt-of-lt-of-le h l) u)))
                 (ih .below i l u));
           }
 
@@ -134,7 +134,7 @@ module _ (f : Format) (n N : ℕ) (n≤N : n ≤ N) where
                     subst Zero (sym (item-tab N (λ i. cond (ltb k i) (sub f (item Y i) (mul f (at N M i k) (item Y k))) (item Y i)) i u))
                     (pick Zero (ltb k i) (sub f (item Y i) (mul f (at N M i k) (item Y k))) (item Y i)
                     (λ t. sub-zeros f (item Y i) (mul f (at N M i k) (item Y k)) (ih .below i l u)
-                    (mul-zero-right f (at N M i k) (item Y k) (ih .below k K h) (ok k i (ltb→lt k i t) u .0)))
+                    (mul-zero-right f (at N M i k) (item Y k) (ih .below k K h) (ok k h .terms i (ltb→lt k i t) u)))
                     (ih .below i l u));
               }
 
@@ -155,7 +155,7 @@ module _ (f : Format) (n N : ℕ) (n≤N : n ≤ N) where
     unfolding backStep
     backStep-late k K h x X c s ok =
         let q = div f (item X k) (at N M k k) in
-        let Q : Zero q = div-zero-left f (item X k) (at N M k k) (c .below k K h) (ok .unknown) in
+        let Q : Zero q = div-zero-left f (item X k) (at N M k k) (c .below k K h) (ok .quotient) in
         let g : ℕ → Float = λ i. cond (eqb i k) q (cond (ltb i k) (sub f (item X i) (mul f (at N M i k) q)) (item X i)) in
         record {
           same = λ i I.
@@ -164,12 +164,12 @@ module _ (f : Format) (n N : ℕ) (n≤N : n ≤ N) where
               ∙ ap (λ (b : Bool). cond b q (cond (ltb i k) (sub f (item X i) (mul f (at N M i k) q)) (item X i))) (is-false (eqb i k) (not-T (eqb i k) (λ t. apart i k n I K (eqb→eq i k t))))
               ∙ ap (λ (b : Bool). cond b (sub f (item X i) (mul f (at N M i k) q)) (item X i)) (is-true (ltb i k) (lt→ltb i k l))
               ∙ ap (λ (z : Float). sub f z (mul f (at N M i k) q)) (c .same i I)
-              ∙ sub-zero-right f (item x i) (mul f (at N M i k) q) (s i I .0) (s i I .1) (mul-zero-right f (at N M i k) q Q (ok .update i l));
+              ∙ sub-zero-right f (item x i) (mul f (at N M i k) q) (s i I .0) (s i I .1) (mul-zero-right f (at N M i k) q Q (ok .terms i l));
           below = λ i l u.
               subst Zero (sym (item-tab N g i u))
               (pick Zero (eqb i k) q (cond (ltb i k) (sub f (item X i) (mul f (at N M i k) q)) (item X i)) (λ e. Q)
               (pick Zero (ltb i k) (sub f (item X i) (mul f (at N M i k) q)) (item X i)
-              (λ t. sub-zeros f (item X i) (mul f (at N M i k) q) (c .below i l u) (mul-zero-right f (at N M i k) q Q (ok .update i (ltb→lt i k t))))
+              (λ t. sub-zeros f (item X i) (mul f (at N M i k) q) (c .below i l u) (mul-zero-right f (at N M i k) q Q (ok .terms i (ltb→lt i k t))))
               (c .below i l u)));
         }
 

@@ -4,7 +4,7 @@ use Prim.Native.Nat.{ℕ, zero, suc, _+_, _-_, _≤_, _<_}
 use mathlib.Core.Path.{_≡_, refl, ap, _∙_}
 use mathlib.Core.Bool.{Bool, cond}
 use mathlib.Core.List.{List}
-use mathlib.Core.Logic.{⊎-elim}
+use mathlib.Core.Logic.{_⊎_, ⊎-elim}
 use native.Mathlib.Omega.{arith}
 use native.Mathlib.Numerals.{add-one}
 use lib.Dec.{eqb}
@@ -58,25 +58,24 @@ module _ (f : Format) (n : ℕ) (F : List Float) (k lo i : ℕ) (l : List Float)
   lowered-more y v z hi e ev ez =
       rw (e, ev, ez, patch-above lo i (lowered f n F k l) l i nan from (omega arith) hi) (patch-more nan lo (lowered f n F k l) l i from hi)
 
+  -- the same where row k is read as the loop has it: it lies before the rows that are done, or after them
+  pub lowered-row : (y : List Float) (v : Float) → i < length l → k < length l → (k < lo) ⊎ (i ≤ k) → y ≡ patch lo i (lowered f n F k l) l → v ≡ at n F i k
+      → set y i (sub f (item y i) (mul f v (item y k))) ≡ patch lo (i + 1) (lowered f n F k l) l
+  lowered-row y v hi hk apart e ev =
+      lowered-more y v (item y k) hi e ev
+      (ap (λ x. item x k) e ∙ ⊎-elim (λ h. patch-below lo i (lowered f n F k l) l k nan h hk) (λ h. patch-above lo i (lowered f n F k l) l k nan (omega arith) h hk) apart)
+
 -- ---- forward substitution
 
--- one column: the rows from k + 1 up to i are done
-module _ (f : Format) (n : ℕ) (F : List Float) (k : ℕ) (x : List Float) where
-  pub forward-row : (i : ℕ) (y y1 : List Float) (u v w : Float) → k < i → i < length x → y ≡ patch (k + 1) i (lowered f n F k x) x
-      → u ≡ item y i → w ≡ item y k → v ≡ at n F i k → y1 ≡ set y i (sub f u (mul f v w)) → y1 ≡ patch (k + 1) (i + 1) (lowered f n F k x) x
-  forward-row i y y1 u v w hk hi e eu ew ev e1 =
-      let a : u ≡ item x i = eu ∙ ap (λ l. item l i) e ∙ patch-above (k + 1) i (lowered f n F k x) x i nan (omega arith) (omega arith) hi in
-      let b : w ≡ item x k = ew ∙ ap (λ l. item l k) e ∙ patch-below (k + 1) i (lowered f n F k x) x k nan (omega arith) (omega arith) in
-      e1 ∙ rw (e, a, b, ev) (patch-more nan (k + 1) (lowered f n F k x) x i (omega arith) hi)
-
-  pub forward-step : length x ≡ n → k < n → patch (k + 1) n (lowered f n F k x) x ≡ forwardStep f n F k x
-  unfolding forwardStep
-  forward-step size hk =
-      tab-is nan n _ (patch (k + 1) n (lowered f n F k x) x) (length-patch (k + 1) n (lowered f n F k x) x ∙ size)
-      (λ i h.
-      ⊎-elim (λ w. rw (lt-ltb k i w) (patch-in (k + 1) n (lowered f n F k x) x i nan (omega arith) h (omega arith)))
-      (λ w. rw (le-ltb k i w) (patch-below (k + 1) n (lowered f n F k x) x i nan (omega arith) (omega arith)))
-      (split k i))
+-- one column: the rows below row k are done
+pub forward-step : (f : Format) (n : ℕ) (F : List Float) (k : ℕ) (x : List Float) → length x ≡ n → k < n → patch (k + 1) n (lowered f n F k x) x ≡ forwardStep f n F k x
+unfolding forwardStep
+forward-step f n F k x size hk =
+    tab-is nan n _ (patch (k + 1) n (lowered f n F k x) x) (length-patch (k + 1) n (lowered f n F k x) x ∙ size)
+    (λ i h.
+    ⊎-elim (λ w. rw (lt-ltb k i w) (patch-in (k + 1) n (lowered f n F k x) x i nan (omega arith) h (omega arith)))
+    (λ w. rw (le-ltb k i w) (patch-below (k + 1) n (lowered f n F k x) x i nan (omega arith) (omega arith)))
+    (split k i))
 
 pub length-forwardStep : (f : Format) (n : ℕ) (F : List Float) (k : ℕ) (x : List Float) → length (forwardStep f n F k x) ≡ n
 unfolding forwardStep
@@ -93,16 +92,7 @@ length-forward f n F x (suc k) h = length-forwardStep f n F k (forward f n F x k
 
 -- ---- back substitution
 
--- one column, x(k) being divided already: the rows below i are done
-module _ (f : Format) (n : ℕ) (F : List Float) (k : ℕ) (x : List Float) where
-  pub back-row : (i : ℕ) (y y1 : List Float) (u v w : Float) → i < k → k < length x → y ≡ patch 0 i (lowered f n F k x) x
-      → u ≡ item y i → w ≡ item y k → v ≡ at n F i k → y1 ≡ set y i (sub f u (mul f v w)) → y1 ≡ patch 0 (i + 1) (lowered f n F k x) x
-  back-row i y y1 u v w hi hk e eu ew ev e1 =
-      let g = lowered f n F k x in
-      let a : u ≡ item x i = eu ∙ ap (λ l. item l i) e ∙ patch-above 0 i g x i nan (omega arith) (omega arith) (omega arith) in
-      let b : w ≡ item x k = ew ∙ ap (λ l. item l k) e ∙ patch-above 0 i g x k nan (omega arith) (omega arith) hk in
-      e1 ∙ rw (e, a, b, ev) (patch-more nan 0 g x i (omega arith) (omega arith))
-
+-- one column: y is x with x(k) divided, and then the rows above row k are done
 pub back-step : (f : Format) (n : ℕ) (F : List Float) (k : ℕ) (x y : List Float) → length x ≡ n → k < n → y ≡ set x k (div f (item x k) (at n F k k))
     → patch 0 k (lowered f n F k y) y ≡ backStep f n F k x
 unfolding backStep

@@ -10,9 +10,9 @@ use Rattle.arithmetic_matrices.specs.Kernels.{patch}
 use Rattle.lu_factoring.specs.declared.LuOutcome.{LuOutcome}
 use Rattle.lu_factoring.specs.declared.LuOutcome.the-variants.{Factored, Singular}
 use Rattle.lu_factoring.specs.Lu.{luAt, luPivot, luOutcome, luFactors, luPivots}
-use Rattle.lu_factoring.specs.Solve.{solvedMatrix}
+use Rattle.lu_factoring.specs.Solve.{lessTerm, solvedMatrix}
 
--- the part of that to the right of column k, x being the multiplier
+-- row i less x times row k, to the right of column k
 unfoldable pub subtracted : Format → ℕ → ℕ → ℕ → Float → List Float → ℕ → Float
 subtracted f n k i x a j = cond (leb j k) (at n a i j) (sub f (at n a i j) (mul f x (at n a k j)))
 
@@ -21,22 +21,22 @@ abbrev pub columnsDone : ℕ → LuOutcome → ℕ
 columnsDone n Factored = n
 columnsDone n (Singular k) = k
 
--- What factoring the n by n matrix a ends with: the outcome r, the matrix a' after the columns that passed, and their pivots in ps', a list whose other
+-- What factoring the n by n matrix a ends with: the outcome r, the matrix a′ after the columns that passed, and their pivots in ps′, a list whose other
 -- elements are those of ps.
-pub record LuDone (f : Format) (n : ℕ) (a : List Float) (ps : List ℕ) (a' : List Float) (ps' : List ℕ) (r : LuOutcome) : Type 0 where
+pub record LuDone (f : Format) (n : ℕ) (a : List Float) (ps : List ℕ) (a′ : List Float) (ps′ : List ℕ) (r : LuOutcome) : Type 0 where
   pub outcome : r ≡ luOutcome f n a
-  pub factors : a' ≡ luAt f n a (columnsDone n r)
-  pub pivots : ps' ≡ patch 0 (columnsDone n r) (luPivot f n a) ps
+  pub factors : a′ ≡ luAt f n a (columnsDone n r)
+  pub pivots : ps′ ≡ patch 0 (columnsDone n r) (luPivot f n a) ps
 
 -- The same where the matrix stands in a longer list w from index off: the rest of w is unchanged.
-pub record LuDoneIn (f : Format) (n off : ℕ) (w : List Float) (ps : List ℕ) (w' : List Float) (ps' : List ℕ) (r : LuOutcome) : Type 0 where
+pub record LuDoneIn (f : Format) (n off : ℕ) (w : List Float) (ps : List ℕ) (w′ : List Float) (ps′ : List ℕ) (r : LuOutcome) : Type 0 where
   pub outcome : r ≡ luOutcome f n (part w off (n * n))
-  pub factors : w' ≡ put w off (luAt f n (part w off (n * n)) (columnsDone n r))
-  pub pivots : ps' ≡ patch 0 (columnsDone n r) (luPivot f n (part w off (n * n))) ps
+  pub factors : w′ ≡ put w off (luAt f n (part w off (n * n)) (columnsDone n r))
+  pub pivots : ps′ ≡ patch 0 (columnsDone n r) (luPivot f n (part w off (n * n))) ps
 
 -- x(i) less F(i, k) * x(k)
 abbrev pub lowered : Format → ℕ → List Float → ℕ → List Float → ℕ → Float
-lowered f n F k x i = sub f (item x i) (mul f (at n F i k) (item x k))
+lowered f n F k x = lessTerm f n F k (item x k) x
 
 -- the matrix b with its column j replaced by x
 unfoldable pub withColumn : ℕ → ℕ → ℕ → List Float → List Float → List Float
@@ -47,9 +47,10 @@ unfoldable pub eachColumn : ℕ → ℕ → (List Float → List Float) → List
 unfolding column
 eachColumn n m g b = grid n m (λ r c. item (g (column n m b c)) r)
 
--- The workspace w after the matrix of order n at f is factored and, where all its columns pass, the right-hand matrix of m columns at x is solved. r is the outcome.
+-- The workspace w after the matrix of order n at `left` is factored and, where all its columns pass, the right-hand matrix of m columns at `right` is
+-- solved. The last argument is the outcome.
 unfoldable pub divided : Format → ℕ → ℕ → ℕ → ℕ → List Float → LuOutcome → List Float
-divided g n m f x w Factored =
-    let a = part w f (n * n) in
-    put (put w f (luFactors g n a)) x (solvedMatrix g n m (luFactors g n a) (luPivots g n a) (part w x (n * m)))
-divided g n m f x w (Singular k) = put w f (luAt g n (part w f (n * n)) k)
+divided f n m left right w Factored =
+    let a = part w left (n * n) in
+    put (put w left (luFactors f n a)) right (solvedMatrix f n m (luFactors f n a) (luPivots f n a) (part w right (n * m)))
+divided f n m left right w (Singular k) = put w left (luAt f n (part w left (n * n)) k)

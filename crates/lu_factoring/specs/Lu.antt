@@ -1,8 +1,14 @@
 -- LU factoring with partial pivoting, column by column: Golub and Van Loan, Matrix Computations, the outer product form of Gaussian elimination
--- with partial pivoting. All entries are those of one n by n matrix, a flat list, and every operation rounds in the format f.
--- L, without its unit diagonal, and U share the list. The column index k, the rows and the pivots count from 0.
--- Two things differ from the book and are the source's: a multiplier is the entry times the rounded reciprocal of the pivot, and a column whose pivot
--- has a magnitude of at most epsilon * n is refused. Assumes nothing.
+-- with partial pivoting (4th edition, Algorithm 3.4.1). All entries are those of one n by n matrix, a flat list by rows, and every operation rounds in
+-- the format f. L, without its unit diagonal, and U share the list. What differs from the book is the source's:
+--   - a multiplier is the entry times the rounded reciprocal of the pivot; the book divides by the pivot;
+--   - a column whose pivot has a magnitude of at most epsilon * n is refused, and LU stops there; the test is absolute, whatever the matrix's norm. The
+--     book has no tolerance and passes over a column whose pivot is 0;
+--   - the pivot is the first of equal magnitudes; the book leaves the choice open;
+--   - a NaN below row k never wins the search, one at row k stays the pivot, and a NaN pivot passes the test; the book has no NaN;
+--   - the last column, which has no row below it, is tested too and has a pivot; the book ends before it;
+--   - rows, columns and pivots count from 0;
+--   - order 0 is accepted: no column, no pivot. Assumes nothing.
 use Prim.Native.Nat.{ℕ, zero, suc, _+_, _-_}
 use mathlib.Core.Bool.{Bool, cond}
 use mathlib.Core.List.{List}
@@ -45,21 +51,33 @@ unfoldable pub swapRows : ℕ → ℕ → ℕ → List Float → List Float
 unfolding exchange
 swapRows n k p a = grid n n (λ i j. at n a (exchange k p i) j)
 
+-- the reciprocal of the pivot, which stands in row k and column k
+abbrev pub pivotReciprocal : Format → ℕ → ℕ → List Float → Float
+pivotReciprocal f n k a = div f one (at n a k k)
+
 -- the multiplier of row i: its entry in column k times the reciprocal t of the pivot
-unfoldable pub multiplier : Format → ℕ → ℕ → Float → List Float → ℕ → Float
+abbrev pub multiplier : Format → ℕ → ℕ → Float → List Float → ℕ → Float
 multiplier f n k t a i = mul f (at n a i k) t
 
--- row i below row k after the elimination of column k: the multiplier in column k, and right of it the entry less the multiplier times the entry of row k
+-- in column j, the multiple of row k that is subtracted from row i
+abbrev pub multiple : Format → ℕ → ℕ → Float → List Float → ℕ → ℕ → Float
+multiple f n k t a i j = mul f (multiplier f n k t a i) (at n a k j)
+
+-- entry (i, j) less that
+abbrev pub lessMultiple : Format → ℕ → ℕ → Float → List Float → ℕ → ℕ → Float
+lessMultiple f n k t a i j = sub f (at n a i j) (multiple f n k t a i j)
+
+-- row i below row k after the elimination of column k: the multiplier in column k, and right of it the entry less the multiple
 unfoldable pub reduced : Format → ℕ → ℕ → Float → List Float → ℕ → ℕ → Float
-unfolding multiplier
-reduced f n k t a i j =
-    cond (ltb j k) (at n a i j)
-    (cond (eqb j k) (multiplier f n k t a i)
-    (sub f (at n a i j) (mul f (multiplier f n k t a i) (at n a k j))))
+reduced f n k t a i j = cond (ltb j k) (at n a i j) (cond (eqb j k) (multiplier f n k t a i) (lessMultiple f n k t a i j))
+
+-- entry (i, j) of any row after it: the rows down to row k are left alone
+unfoldable pub eliminatedEntry : Format → ℕ → ℕ → Float → List Float → ℕ → ℕ → Float
+eliminatedEntry f n k t a i j = cond (ltb k i) (reduced f n k t a i j) (at n a i j)
 
 unfoldable pub eliminated : Format → ℕ → ℕ → List Float → List Float
-unfolding reduced
-eliminated f n k a = grid n n (λ i j. cond (ltb k i) (reduced f n k (div f one (at n a k k)) a i j) (at n a i j))
+unfolding reduced eliminatedEntry
+eliminated f n k a = grid n n (eliminatedEntry f n k (pivotReciprocal f n k a) a)
 
 -- ---- all columns
 
@@ -67,14 +85,14 @@ eliminated f n k a = grid n n (λ i j. cond (ltb k i) (reduced f n k (div f one 
 unfoldable pub luAt : Format → ℕ → List Float → ℕ → List Float
 luAt f n a zero = a
 luAt f n a (suc k) =
-    let m = luAt f n a k in
-    eliminated f n k (swapRows n k (pivotRow n m k) m)
+    let a′ = luAt f n a k in
+    eliminated f n k (swapRows n k (pivotRow n a′ k) a′)
 
 -- the pivot of column k
 unfoldable pub luPivot : Format → ℕ → List Float → ℕ → ℕ
 luPivot f n a k = pivotRow n (luAt f n a k) k
 
--- The d columns from k on: the first that is pivotRefused, or all pass.
+-- The d columns from k on: the first that is refused, or all pass.
 unfoldable pub luFrom : Format → ℕ → List Float → ℕ → ℕ → LuOutcome
 luFrom f n a zero k = Factored
 luFrom f n a (suc d) k = cond (pivotRefused f n (luAt f n a k) k) (Singular k) (luFrom f n a d (suc k))

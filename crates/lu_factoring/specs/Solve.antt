@@ -1,6 +1,8 @@
 -- The solution of a system by the factors of LU, for one right-hand column x, and the determinant. F is the list of the factors of an n by n matrix,
--- ps that of the pivots' rows. The order of the operations is that of the column-oriented substitutions of Golub and Van Loan.
--- Assumes nothing.
+-- ps that of the pivots' rows: LU exchanged row k with row ps(k), and the swaps are applied to x in the same order. Forward and back substitution are
+-- the column-oriented ones of Golub and Van Loan, Matrix Computations (4th edition, Algorithms 3.1.3 and 3.1.4): once an unknown is known, its terms
+-- are subtracted from the other rows. The determinant is negated where an odd number of pivots differ from their column; the product starts with the
+-- sign and takes the diagonal from row 0 down. Rows count from 0; order 0 is accepted, and its determinant is 1. Assumes nothing.
 use Prim.Native.Nat.{ℕ, zero, suc, _+_, _-_, _%_}
 use mathlib.Core.Bool.{true, cond}
 use mathlib.Core.List.{List}
@@ -27,11 +29,21 @@ unfoldable pub permuted : ℕ → List ℕ → List Float → ℕ → List Float
 permuted n ps x zero = x
 permuted n ps x (suc k) = swapItems n k (getD ps k 0) (permuted n ps x k)
 
+-- ---- one unknown
+
+-- the term of the unknown q in row i: F(i, k) * q
+abbrev pub term : Format → ℕ → List Float → ℕ → Float → ℕ → Float
+term f n F k q i = mul f (at n F i k) q
+
+-- x(i) less that
+abbrev pub lessTerm : Format → ℕ → List Float → ℕ → Float → List Float → ℕ → Float
+lessTerm f n F k q x i = sub f (item x i) (term f n F k q i)
+
 -- ---- forward substitution: L has a unit diagonal
 
--- x(i) becomes x(i) - F(i, k) * x(k) in the rows i below row k
+-- x(k) is the unknown of row k, and its terms are subtracted in the rows below row k
 unfoldable pub forwardStep : Format → ℕ → List Float → ℕ → List Float → List Float
-forwardStep f n F k x = tab n (λ i. cond (ltb k i) (sub f (item x i) (mul f (at n F i k) (item x k))) (item x i))
+forwardStep f n F k x = tab n (λ i. cond (ltb k i) (lessTerm f n F k (item x k) x i) (item x i))
 
 -- after the first k columns
 unfoldable pub forward : Format → ℕ → List Float → List Float → ℕ → List Float
@@ -40,18 +52,20 @@ forward f n F x (suc k) = forwardStep f n F k (forward f n F x k)
 
 -- ---- back substitution
 
--- x(k) becomes q = x(k) / F(k, k), and x(i) becomes x(i) - F(i, k) * q in the rows i above row k
+-- the unknown of row k: x(k) / F(k, k)
+abbrev pub unknown : Format → ℕ → List Float → ℕ → List Float → Float
+unknown f n F k x = div f (item x k) (at n F k k)
+
+-- it replaces x(k), and its terms are subtracted in the rows above row k
 unfoldable pub backStep : Format → ℕ → List Float → ℕ → List Float → List Float
 backStep f n F k x =
-    let q = div f (item x k) (at n F k k) in
-    tab n (λ i. cond (eqb i k) q (cond (ltb i k) (sub f (item x i) (mul f (at n F i k) q)) (item x i)))
+    let q = unknown f n F k x in
+    tab n (λ i. cond (eqb i k) q (cond (ltb i k) (lessTerm f n F k q x i) (item x i)))
 
 -- after the last d columns
 unfoldable pub back : Format → ℕ → List Float → List Float → ℕ → List Float
 back f n F x zero = x
 back f n F x (suc d) = backStep f n F (n - suc d) (back f n F x d)
-
--- ---- a row at a time
 
 -- ---- the solution
 
@@ -86,15 +100,15 @@ unfoldable pub solvedMatrix : Format → ℕ → ℕ → List Float → List ℕ
 unfolding solved column
 solvedMatrix f n m F ps b = grid n m (λ r c. item (solved f n F ps (column n m b c)) r)
 
--- the solution for column j of b, of the system whose matrix is d
+-- the solution for column j of b, of the system whose matrix is a
 unfoldable pub solution : Format → ℕ → List Float → List Float → ℕ → List Float
 unfolding solved column
-solution f n d b j = solved f n (luFactors f n d) (luPivots f n d) (column n n b j)
+solution f n a b j = solved f n (luFactors f n a) (luPivots f n a) (column n n b j)
 
--- all of them: the quotient of b by d
+-- all of them: the quotient of b by a
 unfoldable pub quotient : Format → ℕ → List Float → List Float → List Float
 unfolding solvedMatrix
-quotient f n d b = solvedMatrix f n n (luFactors f n d) (luPivots f n d) b
+quotient f n a b = solvedMatrix f n n (luFactors f n a) (luPivots f n a) b
 
 -- the quotient q, or b in its place where LU refuses
 abbrev pub standIn : {A : Type 0} → LuOutcome → A → A → A
@@ -106,12 +120,10 @@ abbrev pub whereFactored : {A : Type 0} → LuOutcome → A → Option A
 whereFactored Factored x = some x
 whereFactored (Singular k) x = none
 
--- d x = b for a matrix b: nothing where LU refuses d
+-- a x = b for a matrix b: nothing where LU refuses a
 unfoldable pub division : Format → ℕ → List Float → List Float → Option (List Float)
-division f n d b = whereFactored (luOutcome f n d) (quotient f n d b)
+division f n a b = whereFactored (luOutcome f n a) (quotient f n a b)
 
 -- the inverse is the quotient of the identity
 unfoldable pub inverse : Format → ℕ → List Float → Option (List Float)
 inverse f n a = division f n a (identityM n)
-
--- ---- a system in a workspace

@@ -19,7 +19,7 @@ use Rattle.arithmetic_matrices.proofs.PatchLaws.{length-patch, patch-is, patch-
 use Rattle.arithmetic_matrices.proofs.ProductLaws.{put-more}
 use Rattle.arithmetic_matrices.proofs.PartLaws.{at-part, length-put, getD-put-after, getD-put-apart}
 use Rattle.lu_factoring.specs.Solve.{forwardStep, forward, backStep, back}
-use Rattle.lu_systems.specs.Kernels.{lessProducts, lowerEntry, upperEntry}
+use Rattle.lu_systems.specs.Kernels.{lessProducts, lowerEntry, upperEntry, rowAt, columnAt}
 use Rattle.lu_factoring.specs.Kernels.{eachColumn}
 use Rattle.lu_factoring.proofs.SolveLaws.{length-forward, length-back}
 use Rattle.lu_factoring.proofs.RowLaws.{each-none, each-cong, each-turn, factors-kept, item-part, row-item, set-row}
@@ -103,38 +103,41 @@ module _ (f : Format) (n : ℕ) (F l : List Float) where
 
 -- ---- a turn of the sums
 
-pub lower-none : (f : Format) (m : ℕ) (w : List Float) (q x y j p : ℕ) → p ≡ y + j → item w p ≡ lowerEntry f 0 m w q x y j
+pub lower-none : (f : Format) (m : ℕ) (w : List Float) (q x y j p : ℕ) → p ≡ y + j → item w p ≡ lowerEntry f 0 (rowAt w q) (columnAt m w x) (rowAt w y) j
 unfolding lowerEntry lessProducts
 lower-none f m w q x y j p e = ap (item w) e
 
 -- p is the place of entry k of the column
-pub lower-turn : (f : Format) (k m : ℕ) (w : List Float) (q x y j p : ℕ) (s : Float) → s ≡ lowerEntry f k m w q x y j → p ≡ x + (k * m + j)
-    → sub f s (mul f (item w (q + k)) (item w p)) ≡ lowerEntry f (k + 1) m w q x y j
+pub lower-turn : (f : Format) (k m : ℕ) (w : List Float) (q x y j p : ℕ) (s : Float) → s ≡ lowerEntry f k (rowAt w q) (columnAt m w x) (rowAt w y) j → p ≡ x + (k * m + j)
+    → sub f s (mul f (item w (q + k)) (item w p)) ≡ lowerEntry f (k + 1) (rowAt w q) (columnAt m w x) (rowAt w y) j
 unfolding lowerEntry lessProducts
 lower-turn f k m w q x y j p s e h = rw (e, h, add-one)
 
-pub lower-done : (f : Format) (i k m : ℕ) (w : List Float) (q x y j : ℕ) (s : Float) → i ≡ k → s ≡ lowerEntry f i m w q x y j → s ≡ lowerEntry f k m w q x y j
+pub lower-done : (f : Format) (i k m : ℕ) (w : List Float) (q x y j : ℕ) (s : Float) → i ≡ k → s ≡ lowerEntry f i (rowAt w q) (columnAt m w x) (rowAt w y) j → s ≡ lowerEntry f k (rowAt w q) (columnAt m w x) (rowAt w y) j
 lower-done f i k m w q x y j s h e = rw h at e
 
--- the same downwards: d of the k rows after the row at y are done
-abbrev pub upperSum : Format → ℕ → ℕ → ℕ → List Float → ℕ → ℕ → ℕ → Float
-upperSum f d k m w g y j = lessProducts f (item w (y + j)) (λ e. item w (g + (k - e))) (λ e. item w (y + ((k - e) * m + j))) d
+-- the same for back substitution: d of the k rows below are done, the last first
+abbrev pub upperSum : Format → ℕ → ℕ → (ℕ → Float) → (ℕ → ℕ → Float) → (ℕ → Float) → ℕ → Float
+upperSum f d k factors below row j = lessProducts f (row j) (λ e. factors (k - e)) (λ e. below j (k - e)) d
 
-pub upper-none : (f : Format) (k m : ℕ) (w : List Float) (g y j p : ℕ) → p ≡ y + j → item w p ≡ upperSum f (k - k) k m w g y j
+pub upper-none : (f : Format) (k m : ℕ) (w : List Float) (g y j p : ℕ) → p ≡ y + j → item w p ≡ upperSum f (k - k) k (rowAt w g) (columnAt m w y) (rowAt w y) j
 unfolding lessProducts
 upper-none f k m w g y j p e = let z : k - k ≡ 0 = omega arith in rw z (ap (item w) e)
 
-pub upper-turn : (f : Format) (r k m : ℕ) (w : List Float) (g y j p : ℕ) (s : Float) → 0 < r → r ≤ k → s ≡ upperSum f (k - r) k m w g y j → p ≡ y + (r * m + j)
-    → sub f s (mul f (item w (g + r)) (item w p)) ≡ upperSum f (k - (r - 1)) k m w g y j
+pub upper-turn : (f : Format) (r k m : ℕ) (w : List Float) (g y j p : ℕ) (s : Float) → 0 < r → r ≤ k → s ≡ upperSum f (k - r) k (rowAt w g) (columnAt m w y) (rowAt w y) j → p ≡ y + (r * m + j)
+    → sub f s (mul f (item w (g + r)) (item w p)) ≡ upperSum f (k - (r - 1)) k (rowAt w g) (columnAt m w y) (rowAt w y) j
 unfolding lessProducts
 upper-turn f r k m w g y j p s hr hk e h =
     let a : k - (r - 1) ≡ suc (k - r) = omega arith in
     let b : k - (k - r) ≡ r = omega arith in
     rw (e, h, a, b)
 
-pub upper-done : (f : Format) (r k m : ℕ) (w : List Float) (g y j : ℕ) (s : Float) → r ≡ 0 → s ≡ upperSum f (k - r) k m w g y j → div f s (item w g) ≡ upperEntry f k m w g y j
+pub upper-done : (f : Format) (r k m : ℕ) (w : List Float) (g y j : ℕ) (s : Float) → r ≡ 0 → s ≡ upperSum f (k - r) k (rowAt w g) (columnAt m w y) (rowAt w y) j → div f s (item w g) ≡ upperEntry f k (rowAt w g) (columnAt m w y) (rowAt w y) j
 unfolding upperEntry
-upper-done f r k m w g y j s h e = let a : k - r ≡ k = omega arith in ap (λ v. div f v (item w g)) (rw a at e)
+upper-done f r k m w g y j s h e =
+    let a : k - r ≡ k = omega arith in
+    let b : g ≡ g + 0 = omega arith in
+    λ t. div f ((rw a at e) t) (item w (b t))
 
 -- the row before row r
 pub row-down : (r m : ℕ) → 0 < r → r * m ≡ (r - 1) * m + m
@@ -149,11 +152,11 @@ rows-from i k n m h = let e : i + (k + 1) ≡ n = omega arith in ap (λ t. i * m
 -- c more numbers after the first j: they read nothing of what is written
 module _ (f : Format) (k m : ℕ) (w : List Float) (y j c : ℕ) (h : j + c ≤ m) where
   pub lower-more : (q x : ℕ) → Apart q k y m → Apart x (k * m) y m
-      → let R : ℕ → Float = lowerEntry f k m w q x y in
-      let u : List Float = put w y (tab j R) in put u (y + j) (tab c (λ t. lowerEntry f k m u q x y (j + t))) ≡ put w y (tab (j + c) R)
+      → let R : ℕ → Float = lowerEntry f k (rowAt w q) (columnAt m w x) (rowAt w y) in
+      let u : List Float = put w y (tab j R) in put u (y + j) (tab c (λ t. lowerEntry f k (rowAt u q) (columnAt m u x) (rowAt u y) (j + t))) ≡ put w y (tab (j + c) R)
   unfolding lowerEntry
   lower-more q x hq hx =
-      let R : ℕ → Float = lowerEntry f k m w q x y in
+      let R : ℕ → Float = lowerEntry f k (rowAt w q) (columnAt m w x) (rowAt w y) in
       let u : List Float = put w y (tab j R) in
       let short : length (tab j R) ≡ j = length-tab j R in
       ap (put u (y + j))
@@ -164,14 +167,14 @@ module _ (f : Format) (k m : ℕ) (w : List Float) (y j c : ℕ) (h : j + c ≤ 
       ∙ put-more c w y j R
 
   pub upper-more : (g : ℕ) → Apart g (k + 1) y m
-      → let R : ℕ → Float = upperEntry f k m w g y in
-      let u : List Float = put w y (tab j R) in put u (y + j) (tab c (λ t. upperEntry f k m u g y (j + t))) ≡ put w y (tab (j + c) R)
+      → let R : ℕ → Float = upperEntry f k (rowAt w g) (columnAt m w y) (rowAt w y) in
+      let u : List Float = put w y (tab j R) in put u (y + j) (tab c (λ t. upperEntry f k (rowAt u g) (columnAt m u y) (rowAt u y) (j + t))) ≡ put w y (tab (j + c) R)
   unfolding upperEntry
   upper-more g hg =
-      let R : ℕ → Float = upperEntry f k m w g y in
+      let R : ℕ → Float = upperEntry f k (rowAt w g) (columnAt m w y) (rowAt w y) in
       let u : List Float = put w y (tab j R) in
       let short : length (tab j R) ≡ j = length-tab j R in
-      let first : item u g ≡ item w g = (let z : g + 0 ≡ g = omega arith in rw z at (getD-put-apart w y m (tab j R) g (k + 1) 0 nan hg (omega arith) (omega arith))) in
+      let first : item u (g + 0) ≡ item w (g + 0) = getD-put-apart w y m (tab j R) g (k + 1) 0 nan hg (omega arith) (omega arith) in
       ap (put u (y + j))
       (tab-cong c _ (λ t. R (j + t))
       (λ t b i.
@@ -216,7 +219,7 @@ module _ (f : Format) (o x n m : ℕ) (w₀ w : List Float) (room : x + n * m �
   forward-rows-none = each-none w₀ x n m (forwardTo f n F₀ 0) room (λ l s. sym (patch-none nan 0 (item (forward f n F₀ l n)) l))
 
   pub forward-rows-more : (i : ℕ) (w1 : List Float) → i < n → w ≡ put w₀ x (eachColumn n m (forwardTo f n F₀ i) (part w₀ x (n * m)))
-      → w1 ≡ put w (x + i * m) (tab m (lowerEntry f i m w (o + i * n) x (x + i * m)))
+      → w1 ≡ put w (x + i * m) (tab m (lowerEntry f i (rowAt w (o + i * n)) (columnAt m w x) (rowAt w (x + i * m))))
       → w1 ≡ put w₀ x (eachColumn n m (forwardTo f n F₀ (i + 1)) (part w₀ x (n * m)))
   unfolding lowerEntry
   forward-rows-more i w1 hi e e1 =
@@ -253,7 +256,7 @@ module _ (f : Format) (o x n m : ℕ) (w₀ w : List Float) (room : x + n * m �
   back-rows-none = each-none w₀ x n m (backFrom f n F₀ n) room (λ l s. sym (patch-none nan n (item (back f n F₀ l n)) l))
 
   back-rows-more : (i k : ℕ) (w1 : List Float) → i + suc k ≡ n → w ≡ put w₀ x (eachColumn n m (backFrom f n F₀ (i + 1)) (part w₀ x (n * m)))
-      → w1 ≡ put w (x + i * m) (tab m (upperEntry f k m w (o + i * n + i) (x + i * m)))
+      → w1 ≡ put w (x + i * m) (tab m (upperEntry f k (rowAt w (o + i * n + i)) (columnAt m w (x + i * m)) (rowAt w (x + i * m))))
       → w1 ≡ put w₀ x (eachColumn n m (backFrom f n F₀ i) (part w₀ x (n * m)))
   unfolding upperEntry
   back-rows-more i k w1 hi e e1 =
@@ -289,7 +292,7 @@ module _ (f : Format) (o x n m : ℕ) (w₀ w : List Float) (room : x + n * m �
       below : i < n
       below = omega arith
 
-      diagonal : o + i * n + i ≡ o + (i * n + i)
+      diagonal : o + i * n + i + 0 ≡ o + (i * n + i)
       diagonal = omega arith
 
       same : F ≡ F₀
@@ -300,7 +303,7 @@ module _ (f : Format) (o x n m : ℕ) (w₀ w : List Float) (room : x + n * m �
 
   -- the same with the places g and y as the loop has them, j being i before it is counted down
   pub back-rows-turn : (j i k g y : ℕ) (w1 : List Float) → j ≡ i + 1 → i + suc k ≡ n → g ≡ o + i * n + i → y ≡ x + i * m
-      → w ≡ put w₀ x (eachColumn n m (backFrom f n F₀ j) (part w₀ x (n * m))) → w1 ≡ put w y (tab m (upperEntry f k m w g y))
+      → w ≡ put w₀ x (eachColumn n m (backFrom f n F₀ j) (part w₀ x (n * m))) → w1 ≡ put w y (tab m (upperEntry f k (rowAt w g) (columnAt m w y) (rowAt w y)))
       → w1 ≡ put w₀ x (eachColumn n m (backFrom f n F₀ i) (part w₀ x (n * m)))
   back-rows-turn j i k g y w1 hj hi hg hy e e1 = back-rows-more i k w1 hi (rw hj at e) (rw (hg, hy) at e1)
 

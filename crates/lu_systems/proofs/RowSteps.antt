@@ -9,11 +9,11 @@ use lib.Ieee.{Float, nan, Format, sub, mul, div}
 use Rattle.arithmetic_matrices.specs.Matrix.{at, item, part, put, Apart}
 use Rattle.arithmetic_matrices.specs.Kernels.{patch}
 use Rattle.arithmetic_matrices.proofs.PatchLaws.{length-patch}
-use Rattle.arithmetic_matrices.proofs.PartLaws.{length-part, getD-part, getD-put-in, put-part, put-put, part-put, part-put-apart}
+use Rattle.arithmetic_matrices.proofs.PartLaws.{length-part, getD-part, getD-put-in, put-part, part-put-apart}
 use Rattle.lu_factoring.specs.Solve.{swapItems, permuted, forward, backStep, back, solved, solvedMatrix}
 use Rattle.lu_factoring.specs.Kernels.{lowered, eachColumn}
 use Rattle.lu_factoring.proofs.SolveLaws.{permuted-more, length-permuted, lowered-more, forward-step, length-forward, forward-turn, back-step, length-backStep, length-back, back-turn}
-use Rattle.lu_factoring.proofs.RowLaws.{set-put-in, each-turn, factors-kept}
+use Rattle.lu_factoring.proofs.RowLaws.{set-put-in, part-turn, part-kept, each-turn, factors-kept}
 
 -- ---- the swaps
 
@@ -27,18 +27,6 @@ module _ (x n m : ℕ) (w₀ w w1 : List Float) (room : x + n * m ≤ length w�
 
 -- ---- one column
 
--- M is the column on the way, and N after one step more
-column-turn : (x n : ℕ) (w₀ w w1 M N : List Float) (g : List Float → List Float) → x + n ≤ length w₀ → length M ≡ n → length N ≡ n → w ≡ put w₀ x M → w1 ≡ put w x (g (part w x n)) → g M ≡ N
-    → w1 ≡ put w₀ x N
-column-turn x n w₀ w w1 M N g room size long e e1 turn =
-    e1
-    ∙ (λ i. put (e i) x (g ((ap (λ (v : List Float). part v x n) e ∙ part-put w₀ x M n size room) i)))
-    ∙ ap (put (put w₀ x M) x) turn
-    ∙ put-put w₀ x M N (size ∙ sym long) (omega arith)
-
-column-kept : (o x n : ℕ) (w₀ w M : List Float) → Apart o (n * n) x n → length M ≡ n → w ≡ put w₀ x M → part w o (n * n) ≡ part w₀ o (n * n)
-column-kept o x n w₀ w M apart size e = ap (λ (v : List Float). part v o (n * n)) e ∙ part-put-apart w₀ x n M o (n * n) apart (omega arith)
-
 module _ (f : Format) (o x n : ℕ) (w₀ w w1 : List Float) (room : x + n ≤ length w₀) (apart : Apart o (n * n) x n) where
   abbrev F₀ : List Float
   F₀ = part w₀ o (n * n)
@@ -50,10 +38,10 @@ module _ (f : Format) (o x n : ℕ) (w₀ w w1 : List Float) (room : x + n ≤ l
       → w1 ≡ put w₀ x (forward f n F₀ l₀ (k + 1))
   forward-column-turn k hk e e1 =
       let size = length-forward f n F₀ l₀ k (length-part w₀ x n) in
-      column-turn x n w₀ w w1 (forward f n F₀ l₀ k) (forward f n F₀ l₀ (k + 1)) (λ l. patch (k + 1) n (lowered f n (part w o (n * n)) k l) l) room size
+      part-turn x n w₀ w w1 (forward f n F₀ l₀ k) (forward f n F₀ l₀ (k + 1)) (λ l. patch (k + 1) n (lowered f n (part w o (n * n)) k l) l) room size
       (length-forward f n F₀ l₀ (k + 1) (length-part w₀ x n)) e e1
       (forward-turn f n F₀ l₀ (forward f n F₀ l₀ k) _ k refl
-      (ap (λ (a : List Float). patch (k + 1) n (lowered f n a k (forward f n F₀ l₀ k)) (forward f n F₀ l₀ k)) (column-kept o x n w₀ w (forward f n F₀ l₀ k) apart size e)
+      (ap (λ (a : List Float). patch (k + 1) n (lowered f n a k (forward f n F₀ l₀ k)) (forward f n F₀ l₀ k)) (part-kept o (n * n) x n w₀ w (forward f n F₀ l₀ k) apart size e)
       ∙ forward-step f n F₀ k (forward f n F₀ l₀ k) size hk))
 
   -- the division by d, and the rows above
@@ -61,8 +49,8 @@ module _ (f : Format) (o x n : ℕ) (w₀ w w1 : List Float) (room : x + n ≤ l
       → w1 ≡ put w x (patch 0 k (lowered f n (part w o (n * n)) k (part w x n)) (part w x n))
       → w1 ≡ put w₀ x (backStep f n F₀ k l₀)
   back-column-step-is k d hk ed e e1 =
-      column-turn x n w₀ w w1 M (backStep f n F₀ k l₀) (λ l. patch 0 k (lowered f n (part w o (n * n)) k l) l) room size (length-backStep f n F₀ k l₀) e' e1
-      (ap (λ (a : List Float). patch 0 k (lowered f n a k M) M) (column-kept o x n w₀ w M apart size e')
+      part-turn x n w₀ w w1 M (backStep f n F₀ k l₀) (λ l. patch 0 k (lowered f n (part w o (n * n)) k l) l) room size (length-backStep f n F₀ k l₀) e' e1
+      (ap (λ (a : List Float). patch 0 k (lowered f n a k M) M) (part-kept o (n * n) x n w₀ w M apart size e')
       ∙ back-step f n F₀ k l₀ M (length-part w₀ x n) hk refl)
     where
       M : List Float
@@ -81,10 +69,10 @@ module _ (f : Format) (o x n : ℕ) (w₀ w w1 : List Float) (room : x + n ≤ l
       → w1 ≡ put w₀ x (back f n F₀ l₀ (n - (k - 1)))
   back-column-turn k hk hn e e1 =
       let size = length-back f n F₀ l₀ (n - k) (length-part w₀ x n) in
-      column-turn x n w₀ w w1 (back f n F₀ l₀ (n - k)) (back f n F₀ l₀ (n - (k - 1))) (backStep f n (part w o (n * n)) (k - 1)) room size
+      part-turn x n w₀ w w1 (back f n F₀ l₀ (n - k)) (back f n F₀ l₀ (n - (k - 1))) (backStep f n (part w o (n * n)) (k - 1)) room size
       (length-back f n F₀ l₀ (n - (k - 1)) (length-part w₀ x n)) e e1
       (back-turn f n F₀ l₀ (back f n F₀ l₀ (n - k)) _ k hk hn refl
-      (ap (λ (a : List Float). backStep f n a (k - 1) (back f n F₀ l₀ (n - k))) (column-kept o x n w₀ w (back f n F₀ l₀ (n - k)) apart size e)))
+      (ap (λ (a : List Float). backStep f n a (k - 1) (back f n F₀ l₀ (n - k))) (part-kept o (n * n) x n w₀ w (back f n F₀ l₀ (n - k)) apart size e)))
 
 -- the factors are at o, v is the number in row k
 pub lower-column-turn : (f : Format) (o x n k lo i : ℕ) (w₀ w : List Float) (q v : Float) → k < n → lo ≤ i → i < n → x + n ≤ length w₀ → Apart o (n * n) x n

@@ -4,17 +4,26 @@ use mathlib.Core.List.{List}
 use lib.Ieee.{Float, Format, mul, sub, div}
 use Rattle.arithmetic_matrices.specs.Matrix.{item}
 
--- v less a(0) * b(0), a(1) * b(1), .., a(k - 1) * b(k - 1), in this order
+-- the numbers that stand in w from place p on
+abbrev pub rowAt : List Float → ℕ → ℕ → Float
+rowAt w p i = item w (p + i)
+
+-- column j of the rows of m numbers each that stand in w from place p on
+abbrev pub columnAt : ℕ → List Float → ℕ → ℕ → ℕ → Float
+columnAt m w p j i = item w (p + (i * m + j))
+
+-- v less row(0) * column(0), row(1) * column(1), .., row(k - 1) * column(k - 1), in this order
 unfoldable pub lessProducts : Format → Float → (ℕ → Float) → (ℕ → Float) → ℕ → Float
-lessProducts f v a b zero = v
-lessProducts f v a b (suc k) = sub f (lessProducts f v a b k) (mul f (a k) (b k))
+lessProducts f v row column zero = v
+lessProducts f v row column (suc k) = sub f (lessProducts f v row column k) (mul f (row k) (column k))
 
--- number j of the row at y, less the k numbers at q times numbers j of the first k rows, of m numbers each, at x
-unfoldable pub lowerEntry : Format → ℕ → ℕ → List Float → ℕ → ℕ → ℕ → ℕ → Float
+-- Forward substitution: number j of a right-hand row, less its first k factors times numbers j of the k rows above it.
+unfoldable pub lowerEntry : Format → ℕ → (ℕ → Float) → (ℕ → ℕ → Float) → (ℕ → Float) → ℕ → Float
 unfolding lessProducts
-lowerEntry f k m w q x y j = lessProducts f (item w (y + j)) (λ i. item w (q + i)) (λ i. item w (x + (i * m + j))) k
+lowerEntry f k factors above row j = lessProducts f (row j) factors (above j) k
 
--- number j of the row at y, less the k numbers after g times numbers j of the k rows after it, the last first; then divided by the number at g
-unfoldable pub upperEntry : Format → ℕ → ℕ → List Float → ℕ → ℕ → ℕ → Float
+-- Back substitution: number j of a right-hand row, less its k factors right of the diagonal times numbers j of the k rows below it, the last first; then
+-- divided by the diagonal. The factors and the columns count from the diagonal and from the row itself, so number 0 of both is passed over.
+unfoldable pub upperEntry : Format → ℕ → (ℕ → Float) → (ℕ → ℕ → Float) → (ℕ → Float) → ℕ → Float
 unfolding lessProducts
-upperEntry f k m w g y j = div f (lessProducts f (item w (y + j)) (λ d. item w (g + (k - d))) (λ d. item w (y + ((k - d) * m + j))) k) (item w g)
+upperEntry f k factors below row j = div f (lessProducts f (row j) (λ d. factors (k - d)) (λ d. below j (k - d)) k) (factors 0)

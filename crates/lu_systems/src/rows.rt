@@ -8,7 +8,7 @@ ghost use Rattle.arithmetic_matrices.specs.Matrix.{tab, at, part, put, Apart};
 ghost use Rattle.arithmetic_matrices.specs.Kernels.{patch};
 ghost use Rattle.lu_factoring.specs.Solve.{permuted, backStep, forward as forwardOf, back as backOf};
 ghost use Rattle.lu_factoring.specs.Kernels.{lowered, eachColumn};
-ghost use Rattle.lu_systems.specs.Kernels.{lowerEntry, upperEntry};
+ghost use Rattle.lu_systems.specs.Kernels.{lowerEntry, upperEntry, rowAt, columnAt};
 use lu_factoring::swap::exchange_rows;
 
 // Entry (i, k) of the factors.
@@ -81,7 +81,7 @@ fn back_column(w: &mut [f64], f: usize, x: usize, n: usize)
 // The four numbers at y + j and on: less the k numbers at q times the first k rows, of m numbers each, at x, in the columns from j on.
 fn lower_four(w: &mut [f64], q: usize, x: usize, y: usize, j: usize, k: usize, m: usize)
     requires { ⌜ (j + 4 ≤ m) × (q + k ≤ length (now w)) × (x + k * m ≤ length (now w)) × (y + m ≤ length (now w)) ⌝ }
-    ensures { λ _. ⌜ now (w .exit) ≡ put (now (w .entry)) (y + j) (tab 4 (λ t. lowerEntry binary64 k m (now (w .entry)) q x y (j + t))) ⌝ }
+    ensures { λ _. ⌜ now (w .exit) ≡ put (now (w .entry)) (y + j) (tab 4 (λ t. lowerEntry binary64 k (rowAt (now (w .entry)) q) (columnAt m (now (w .entry)) x) (rowAt (now (w .entry)) y) (j + t))) ⌝ }
 {
     let z = y + j;
     let mut s0 = w[z];
@@ -108,7 +108,7 @@ fn lower_four(w: &mut [f64], q: usize, x: usize, y: usize, j: usize, k: usize, m
 // The same for the one number at y + j.
 fn lower_one(w: &mut [f64], q: usize, x: usize, y: usize, j: usize, k: usize, m: usize)
     requires { ⌜ (j < m) × (q + k ≤ length (now w)) × (x + k * m ≤ length (now w)) × (y + m ≤ length (now w)) ⌝ }
-    ensures { λ _. ⌜ now (w .exit) ≡ put (now (w .entry)) (y + j) (tab 1 (λ t. lowerEntry binary64 k m (now (w .entry)) q x y (j + t))) ⌝ }
+    ensures { λ _. ⌜ now (w .exit) ≡ put (now (w .entry)) (y + j) (tab 1 (λ t. lowerEntry binary64 k (rowAt (now (w .entry)) q) (columnAt m (now (w .entry)) x) (rowAt (now (w .entry)) y) (j + t))) ⌝ }
 {
     let z = y + j;
     let mut s0 = w[z];
@@ -125,7 +125,7 @@ fn lower_one(w: &mut [f64], q: usize, x: usize, y: usize, j: usize, k: usize, m:
 // The same for the next numbers: four of them, or one where fewer than four are left. Returns how many.
 fn lower_next(w: &mut [f64], q: usize, x: usize, y: usize, j: usize, k: usize, m: usize) -> usize
     requires { ⌜ (j < m) × (q + k ≤ length (now w)) × (x + k * m ≤ length (now w)) × (y + m ≤ length (now w)) ⌝ }
-    ensures { λ c. ⌜ (1 ≤ c) × (j + c ≤ m) × (now (w .exit) ≡ put (now (w .entry)) (y + j) (tab c (λ t. lowerEntry binary64 k m (now (w .entry)) q x y (j + t)))) ⌝ }
+    ensures { λ c. ⌜ (1 ≤ c) × (j + c ≤ m) × (now (w .exit) ≡ put (now (w .entry)) (y + j) (tab c (λ t. lowerEntry binary64 k (rowAt (now (w .entry)) q) (columnAt m (now (w .entry)) x) (rowAt (now (w .entry)) y) (j + t)))) ⌝ }
 {
     if j + 4 <= m {
         lower_four(w, q, x, y, j, k, m);
@@ -138,7 +138,7 @@ fn lower_next(w: &mut [f64], q: usize, x: usize, y: usize, j: usize, k: usize, m
 // The row of m numbers at y, less the k numbers at q times the first k rows at x.
 fn lower_row(w: &mut [f64], q: usize, x: usize, y: usize, k: usize, m: usize)
     requires { ⌜ (q + k ≤ length (now w)) × (x + k * m ≤ length (now w)) × (y + m ≤ length (now w)) × Apart q k y m × Apart x (k * m) y m ⌝ }
-    ensures { λ _. ⌜ now (w .exit) ≡ put (now (w .entry)) y (tab m (lowerEntry binary64 k m (now (w .entry)) q x y)) ⌝ }
+    ensures { λ _. ⌜ now (w .exit) ≡ put (now (w .entry)) y (tab m (lowerEntry binary64 k (rowAt (now (w .entry)) q) (columnAt m (now (w .entry)) x) (rowAt (now (w .entry)) y))) ⌝ }
 {
     let mut j = 0;
     while j < m {
@@ -178,7 +178,7 @@ pub fn forward_rows(w: &mut [f64], f: usize, x: usize, n: usize, m: usize)
 // last row first; then divided by the number at g.
 fn upper_four(w: &mut [f64], g: usize, y: usize, j: usize, k: usize, m: usize)
     requires { ⌜ (j + 4 ≤ m) × (g + k < length (now w)) × (y + k * m + m ≤ length (now w)) ⌝ }
-    ensures { λ _. ⌜ now (w .exit) ≡ put (now (w .entry)) (y + j) (tab 4 (λ t. upperEntry binary64 k m (now (w .entry)) g y (j + t))) ⌝ }
+    ensures { λ _. ⌜ now (w .exit) ≡ put (now (w .entry)) (y + j) (tab 4 (λ t. upperEntry binary64 k (rowAt (now (w .entry)) g) (columnAt m (now (w .entry)) y) (rowAt (now (w .entry)) y) (j + t))) ⌝ }
 {
     let z = y + j;
     let mut s0 = w[z];
@@ -206,7 +206,7 @@ fn upper_four(w: &mut [f64], g: usize, y: usize, j: usize, k: usize, m: usize)
 // The same for the one number at y + j.
 fn upper_one(w: &mut [f64], g: usize, y: usize, j: usize, k: usize, m: usize)
     requires { ⌜ (j < m) × (g + k < length (now w)) × (y + k * m + m ≤ length (now w)) ⌝ }
-    ensures { λ _. ⌜ now (w .exit) ≡ put (now (w .entry)) (y + j) (tab 1 (λ t. upperEntry binary64 k m (now (w .entry)) g y (j + t))) ⌝ }
+    ensures { λ _. ⌜ now (w .exit) ≡ put (now (w .entry)) (y + j) (tab 1 (λ t. upperEntry binary64 k (rowAt (now (w .entry)) g) (columnAt m (now (w .entry)) y) (rowAt (now (w .entry)) y) (j + t))) ⌝ }
 {
     let z = y + j;
     let mut s0 = w[z];
@@ -223,7 +223,7 @@ fn upper_one(w: &mut [f64], g: usize, y: usize, j: usize, k: usize, m: usize)
 // The same for the next numbers: four of them, or one where fewer than four are left. Returns how many.
 fn upper_next(w: &mut [f64], g: usize, y: usize, j: usize, k: usize, m: usize) -> usize
     requires { ⌜ (j < m) × (g + k < length (now w)) × (y + k * m + m ≤ length (now w)) ⌝ }
-    ensures { λ c. ⌜ (1 ≤ c) × (j + c ≤ m) × (now (w .exit) ≡ put (now (w .entry)) (y + j) (tab c (λ t. upperEntry binary64 k m (now (w .entry)) g y (j + t)))) ⌝ }
+    ensures { λ c. ⌜ (1 ≤ c) × (j + c ≤ m) × (now (w .exit) ≡ put (now (w .entry)) (y + j) (tab c (λ t. upperEntry binary64 k (rowAt (now (w .entry)) g) (columnAt m (now (w .entry)) y) (rowAt (now (w .entry)) y) (j + t)))) ⌝ }
 {
     if j + 4 <= m {
         upper_four(w, g, y, j, k, m);
@@ -236,7 +236,7 @@ fn upper_next(w: &mut [f64], g: usize, y: usize, j: usize, k: usize, m: usize) -
 // The row of m numbers at y, less the k numbers after g times the k rows after it, the last first; then divided by the number at g.
 fn upper_row(w: &mut [f64], g: usize, y: usize, k: usize, m: usize)
     requires { ⌜ (g + k < length (now w)) × (y + k * m + m ≤ length (now w)) × Apart g (k + 1) y m ⌝ }
-    ensures { λ _. ⌜ now (w .exit) ≡ put (now (w .entry)) y (tab m (upperEntry binary64 k m (now (w .entry)) g y)) ⌝ }
+    ensures { λ _. ⌜ now (w .exit) ≡ put (now (w .entry)) y (tab m (upperEntry binary64 k (rowAt (now (w .entry)) g) (columnAt m (now (w .entry)) y) (rowAt (now (w .entry)) y))) ⌝ }
 {
     let mut j = 0;
     while j < m {

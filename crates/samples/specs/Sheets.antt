@@ -6,7 +6,7 @@ use mathlib.Core.List.{List, [], _∷_, _++_}
 use lib.ListN.{take, set}
 use lib.Ieee.{binary64}
 use Rattle.sheet_encoding.specs.Bytes.{wordAt, numberAt, numbersAt}
-use Rattle.sheet_encoding.specs.Text.{hexDigits, decimalIn, decimal, numberText, numbersText, detailsText, refusedLine, doneHead, doneLine, resultLine}
+use Rattle.sheet_encoding.specs.Text.{hexDigits, decimalIn, decimal, numberText, numbersText, detailsText, refusedLine, doneHead, doneLine, resultLine, carrying}
 use Rattle.sheet_encoding.specs.Parse.{byteIn, section, order, task, tasks, parseEnd, parseEach, parseTasks, parseExponents, parseDirections, parseSheet}
 use Rattle.sheet.specs.Tasks.{valueFor, derivativeFor, both, ratio, taskResult, taskLines, linesOf, sheetLines}
 use Rattle.samples.specs.Shown.{Line, hold}
@@ -54,5 +54,5 @@ sheet-table =
     ∷ []
 
 pub sheets-hold : hold sheet-table ≡ true
-unfolding sheet-table all wordAt numberAt numbersAt hexDigits decimalIn decimal numberText numbersText detailsText refusedLine doneHead doneLine resultLine byteIn section order task tasks parseEnd parseEach parseTasks parseExponents parseDirections parseSheet valueFor derivativeFor both ratio taskResult taskLines linesOf sheetLines
+unfolding sheet-table all wordAt numberAt numbersAt hexDigits decimalIn decimal numberText numbersText detailsText refusedLine doneHead doneLine resultLine carrying byteIn section order task tasks parseEnd parseEach parseTasks parseExponents parseDirections parseSheet valueFor derivativeFor both ratio taskResult taskLines linesOf sheetLines
 sheets-hold = refl

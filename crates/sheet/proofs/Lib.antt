@@ -3,4 +3,3 @@ pub mod FewLaws
 pub mod TaskLaws
 pub mod SheetLaws
 pub mod FirstBytes
-pub mod NumberLaws

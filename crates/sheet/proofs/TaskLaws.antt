@@ -6,17 +6,18 @@ use mathlib.Core.List.{List, [], _∷_, _++_, append-nil}
 use borrow.Author.Tests.{lt-ltb, le-ltb, eq-eqb, ne-eqb}
 use lib.ListN.{length}
 use lib.Ieee.{Float, Format}
-use Rattle.arithmetic_floats.specs.Float.{+zero}
 use Rattle.arithmetic_questions.specs.Result.{Result, refused, done, exit, outcome}
 use Rattle.arithmetic_questions.specs.Answers.{reported}
 use Rattle.arithmetic_questions.specs.Outputs.{Both, OneOutputWith, TwoOutputsWith}
 use Rattle.arithmetic_questions.specs.declared.answer.Outcome.{Outcome}
 use Rattle.functions_definitions.specs.Derivatives.{Condition}
+use Rattle.functions_definitions.specs.Conditions.{Conditioned}
 use Rattle.functions_definitions.specs.Calls.{expm, logm, sqrtm, powm, cosm, sinm, frechetExpm, frechetLogm, frechetSqrtm, condExpm}
 use Rattle.sheet_encoding.specs.Bytes.{numbersAt}
-use Rattle.sheet_encoding.specs.Text.{resultLine}
-use Rattle.sheet_encoding.specs.Kernels.{carrying, Lined}
-use Rattle.sheet.specs.Tasks.{valueFor, derivativeFor, both, ratio, directionAt, exponentAt, exponentFor, taskResult}
+use Rattle.sheet_encoding.specs.Text.{resultLine, carrying}
+use Rattle.sheet_encoding.specs.Parse.{directionAt, exponentAt}
+use Rattle.sheet_encoding.specs.Kernels.{Lined}
+use Rattle.sheet.specs.Tasks.{workspaceLength, valueFor, derivativeFor, both, ratio, exponentFor, taskResult}
 
 -- ---- an outcome with the outputs that the call left is the definition's result
 
@@ -31,26 +32,26 @@ unfolding carrying outcome exit both
 carried-both (refused k i j) o first first′ second second′ e v d = ap (carrying (first′ ++ second′)) e
 carried-both (done s b) o first first′ second second′ e v d = ap (carrying (first′ ++ second′)) e ∙ rw (v, d)
 
-pub carried-ratio : (x : Result Condition) (o : Outcome) (r : Float) → reported o ≡ outcome x → r ≡ exit (λ (c : Condition). c .ratio) x +zero → carrying ((r ∷ []) ++ []) (reported o) ≡ ratio x
+pub carried-ratio : (x : Result Condition) (o : Outcome) (c : Condition) → Conditioned x o c → carrying ((c .ratio ∷ []) ++ []) (reported o) ≡ ratio x
 unfolding carrying outcome exit ratio
-carried-ratio (refused k i j) o r e v = ap (carrying ((r ∷ []) ++ [])) e
-carried-ratio (done s c) o r e v = ap (carrying ((r ∷ []) ++ [])) e ∙ rw v
+carried-ratio (refused k i j) o c v = ap (carrying ((c .ratio ∷ []) ++ [])) (v .outcome)
+carried-ratio (done s d) o c v = ap (carrying ((c .ratio ∷ []) ++ [])) (v .outcome) ∙ rw (v .condition)
 
 -- the same line, of a result that is given in another way
 pub lined-as : (f : Format) (task : ℕ) {x y : Result (List Float)} {o : List ℕ} {at : ℕ} {o′ : List ℕ} {r : ℕ} → x ≡ y → Lined o at (resultLine f task x) o′ r → Lined o at (resultLine f task y) o′ r
 lined-as f task {x} {y} {o} {at} {o′} {r} e l = subst (λ (z : Result (List Float)). Lined o at (resultLine f task z) o′ r) e l
 
--- ---- a call by its code: outputs have n * n numbers, and the workspace 8,192
+-- ---- a call by its code: outputs have n * n numbers
 
-pub chosen-one : (n : ℕ) (g : ℕ → ℕ → Result (List Float)) (v : Result (List Float)) (o : Outcome) (x x′ w w′ : List Float) → length x ≡ n * n → length w ≡ 8192
-    → v ≡ g (n * n) 8192 → OneOutputWith false (g (length x) (length w)) o x x′ w w′ → OneOutputWith false v o x x′ w w′
+pub chosen-one : (n : ℕ) (g : ℕ → ℕ → Result (List Float)) (v : Result (List Float)) (o : Outcome) (x x′ w w′ : List Float) → length x ≡ n * n → length w ≡ workspaceLength
+    → v ≡ g (n * n) workspaceLength → OneOutputWith false (g (length x) (length w)) o x x′ w w′ → OneOutputWith false v o x x′ w w′
 chosen-one n g v o x x′ w w′ h k e r =
     let r1 = subst (λ (l : ℕ). OneOutputWith false (g l (length w)) o x x′ w w′) h r in
     let r2 = subst (λ (l : ℕ). OneOutputWith false (g (n * n) l) o x x′ w w′) k r1 in
     subst (λ (z : Result (List Float)). OneOutputWith false z o x x′ w w′) (sym e) r2
 
-pub chosen-two : (n : ℕ) (g : ℕ → ℕ → ℕ → Result Both) (v : Result Both) (o : Outcome) (x x′ y y′ w w′ : List Float) → length x ≡ n * n → length y ≡ n * n → length w ≡ 8192
-    → v ≡ g (n * n) (n * n) 8192 → TwoOutputsWith false (g (length x) (length y) (length w)) o x x′ y y′ w w′ → TwoOutputsWith false v o x x′ y y′ w w′
+pub chosen-two : (n : ℕ) (g : ℕ → ℕ → ℕ → Result Both) (v : Result Both) (o : Outcome) (x x′ y y′ w w′ : List Float) → length x ≡ n * n → length y ≡ n * n → length w ≡ workspaceLength
+    → v ≡ g (n * n) (n * n) workspaceLength → TwoOutputsWith false (g (length x) (length y) (length w)) o x x′ y y′ w w′ → TwoOutputsWith false v o x x′ y y′ w w′
 chosen-two n g v o x x′ y y′ w w′ h i k e r =
     let r1 = subst (λ (l : ℕ). TwoOutputsWith false (g l (length y) (length w)) o x x′ y y′ w w′) h r in
     let r2 = subst (λ (l : ℕ). TwoOutputsWith false (g (n * n) l (length w)) o x x′ y y′ w w′) i r1 in
@@ -59,40 +60,40 @@ chosen-two n g v o x x′ y y′ w w′ h i k e r =
 
 -- the function of each code
 module _ (f : Format) (n : ℕ) (a : List Float) (p : Float) (code : ℕ) where
-  pub value-0 : code ≡ 0 → valueFor f n a p code ≡ expm f n n a (n * n) 8192
+  pub value-0 : code ≡ 0 → valueFor f n a p code ≡ expm f n n a (n * n) workspaceLength
   unfolding valueFor
   value-0 e = simp (eq-eqb code 0 e)
 
-  pub value-1 : (code ≡ 0 → ⊥) → code ≡ 1 → valueFor f n a p code ≡ logm f n n a (n * n) 8192
+  pub value-1 : (code ≡ 0 → ⊥) → code ≡ 1 → valueFor f n a p code ≡ logm f n n a (n * n) workspaceLength
   unfolding valueFor
   value-1 h0 e = simp (ne-eqb code 0 h0, eq-eqb code 1 e)
 
-  pub value-2 : (code ≡ 0 → ⊥) → (code ≡ 1 → ⊥) → code ≡ 2 → valueFor f n a p code ≡ sqrtm f n n a (n * n) 8192
+  pub value-2 : (code ≡ 0 → ⊥) → (code ≡ 1 → ⊥) → code ≡ 2 → valueFor f n a p code ≡ sqrtm f n n a (n * n) workspaceLength
   unfolding valueFor
   value-2 h0 h1 e = simp (ne-eqb code 0 h0, ne-eqb code 1 h1, eq-eqb code 2 e)
 
-  pub value-3 : (code ≡ 0 → ⊥) → (code ≡ 1 → ⊥) → (code ≡ 2 → ⊥) → code ≡ 3 → valueFor f n a p code ≡ powm f n n a (n * n) 8192 p
+  pub value-3 : (code ≡ 0 → ⊥) → (code ≡ 1 → ⊥) → (code ≡ 2 → ⊥) → code ≡ 3 → valueFor f n a p code ≡ powm f n n a (n * n) workspaceLength p
   unfolding valueFor
   value-3 h0 h1 h2 e = simp (ne-eqb code 0 h0, ne-eqb code 1 h1, ne-eqb code 2 h2, eq-eqb code 3 e)
 
-  pub value-4 : (code ≡ 0 → ⊥) → (code ≡ 1 → ⊥) → (code ≡ 2 → ⊥) → (code ≡ 3 → ⊥) → code ≡ 4 → valueFor f n a p code ≡ cosm f n n a (n * n) 8192
+  pub value-4 : (code ≡ 0 → ⊥) → (code ≡ 1 → ⊥) → (code ≡ 2 → ⊥) → (code ≡ 3 → ⊥) → code ≡ 4 → valueFor f n a p code ≡ cosm f n n a (n * n) workspaceLength
   unfolding valueFor
   value-4 h0 h1 h2 h3 e = simp (ne-eqb code 0 h0, ne-eqb code 1 h1, ne-eqb code 2 h2, ne-eqb code 3 h3, eq-eqb code 4 e)
 
-  pub value-5 : (code ≡ 0 → ⊥) → (code ≡ 1 → ⊥) → (code ≡ 2 → ⊥) → (code ≡ 3 → ⊥) → (code ≡ 4 → ⊥) → valueFor f n a p code ≡ sinm f n n a (n * n) 8192
+  pub value-5 : (code ≡ 0 → ⊥) → (code ≡ 1 → ⊥) → (code ≡ 2 → ⊥) → (code ≡ 3 → ⊥) → (code ≡ 4 → ⊥) → valueFor f n a p code ≡ sinm f n n a (n * n) workspaceLength
   unfolding valueFor
   value-5 h0 h1 h2 h3 h4 = simp (ne-eqb code 0 h0, ne-eqb code 1 h1, ne-eqb code 2 h2, ne-eqb code 3 h3, ne-eqb code 4 h4)
 
 module _ (f : Format) (n : ℕ) (a e : List Float) (code : ℕ) where
-  pub derivative-6 : code ≡ 6 → derivativeFor f n a e code ≡ frechetExpm f n n a n n e (n * n) (n * n) 8192
+  pub derivative-6 : code ≡ 6 → derivativeFor f n a e code ≡ frechetExpm f n n a n n e (n * n) (n * n) workspaceLength
   unfolding derivativeFor
   derivative-6 h = simp (eq-eqb code 6 h)
 
-  pub derivative-7 : (code ≡ 6 → ⊥) → code ≡ 7 → derivativeFor f n a e code ≡ frechetLogm f n n a n n e (n * n) (n * n) 8192
+  pub derivative-7 : (code ≡ 6 → ⊥) → code ≡ 7 → derivativeFor f n a e code ≡ frechetLogm f n n a n n e (n * n) (n * n) workspaceLength
   unfolding derivativeFor
   derivative-7 h0 h = simp (ne-eqb code 6 h0, eq-eqb code 7 h)
 
-  pub derivative-8 : (code ≡ 6 → ⊥) → (code ≡ 7 → ⊥) → derivativeFor f n a e code ≡ frechetSqrtm f n n a n n e (n * n) (n * n) 8192
+  pub derivative-8 : (code ≡ 6 → ⊥) → (code ≡ 7 → ⊥) → derivativeFor f n a e code ≡ frechetSqrtm f n n a n n e (n * n) (n * n) workspaceLength
   unfolding derivativeFor
   derivative-8 h0 h1 = simp (ne-eqb code 6 h0, ne-eqb code 7 h1)
 
@@ -106,6 +107,6 @@ module _ (f : Format) (s : List ℕ) (n d code i : ℕ) (a : List Float) (h : a 
   unfolding taskResult
   task-derivative l k = rw (h, le-ltb code 6 l, lt-ltb code 9 k)
 
-  pub task-condition : 6 ≤ code → 9 ≤ code → ratio (condExpm f n n a 8192) ≡ taskResult f s n d code i
+  pub task-condition : 6 ≤ code → 9 ≤ code → ratio (condExpm f n n a workspaceLength) ≡ taskResult f s n d code i
   unfolding taskResult
   task-condition l k = rw (h, le-ltb code 6 l, le-ltb code 9 k)

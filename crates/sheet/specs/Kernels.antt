@@ -1,45 +1,35 @@
 -- What the functions that run tasks ask for. Only the contracts of kernels cite it. Definitions only.
 use Prim.Native.Nat.{ℕ, _+_, _*_, _≤_, _<_}
 use mathlib.Core.Path.{_≡_}
-use mathlib.Core.Logic.{_⊎_}
 use mathlib.Core.List.{List}
 use lib.ListN.{length}
 use lib.Ieee.{Float, binary64}
 use Rattle.sheet_encoding.specs.Bytes.{byteAt, numbersAt}
-use Rattle.sheet.specs.Tasks.{directionAt, exponentAt}
+use Rattle.sheet_encoding.specs.Limits.{taskLimit, lineLimit, outputLimit}
+use Rattle.sheet_encoding.specs.Parse.{matrixSize, directionAt, exponentAt}
+use Rattle.sheet.specs.Tasks.{workspaceLength}
 
 -- a task's place on the output, its order, its matrix and its workspace
 pub record TaskRoom (out : List ℕ) (at task n : ℕ) (a w : List Float) : Type 0 where
-  pub space : at + 2187 ≤ length out
-  pub number : task ≤ 16
+  pub space : at + lineLimit ≤ length out
+  pub number : task ≤ taskLimit
   pub order : n ≤ 8
   pub matrix : length a ≡ n * n
-  pub workspace : length w ≡ 8192
+  pub workspace : length w ≡ workspaceLength
 
 -- where the task at q names an exponent or a direction, that is there
 pub record TaskReady (s : List ℕ) (q n d : ℕ) : Type 0 where
   pub there : q + 1 < length s
   pub directions : d ≤ 8
   pub exponent : byteAt s q ≡ 3 → exponentAt n d (byteAt s (q + 1)) + 8 ≤ length s
-  pub direction : 6 ≤ byteAt s q → byteAt s q < 9 → directionAt n (byteAt s (q + 1)) + 8 * (n * n) ≤ length s
+  pub direction : 6 ≤ byteAt s q → byteAt s q < 9 → directionAt n (byteAt s (q + 1)) + matrixSize n ≤ length s
   pub index : 6 ≤ byteAt s q → byteAt s q < 9 → byteAt s (q + 1) ≤ 8
 
 -- what running the t tasks from q on asks for: they are ready, a is the sheet's matrix, there is room
 pub record TasksRoom (s : List ℕ) (q n d t : ℕ) (out : List ℕ) (a w : List Float) : Type 0 where
   pub ready : (k : ℕ) → k < t → TaskReady s (q + 2 * k) n d
-  pub few : t ≤ 16
+  pub few : t ≤ taskLimit
   pub order : n ≤ 8
   pub matrix : a ≡ numbersAt binary64 s 1 (n * n)
-  pub space : 35000 ≤ length out
-  pub workspace : length w ≡ 8192
-
--- the codes of sqrtm and frechet_sqrtm
-abbrev pub RootCode : ℕ → Type 0
-RootCode code = (code ≡ 2) ⊎ (code ≡ 8)
-
--- the task at q has such a code and, where that is 8, its direction is there; the order is 1
-pub record RootTask (s : List ℕ) (q : ℕ) : Type 0 where
-  pub there : q + 1 < length s
-  pub code : RootCode (byteAt s q)
-  pub direction : byteAt s q ≡ 8 → directionAt 1 (byteAt s (q + 1)) + 8 ≤ length s
-  pub index : byteAt s q ≡ 8 → byteAt s (q + 1) ≤ 8
+  pub space : outputLimit ≤ length out
+  pub workspace : length w ≡ workspaceLength

@@ -14,27 +14,32 @@ use Rattle.functions_definitions.specs.Calls.{expm, logm, sqrtm, powm, cosm, si
 use Rattle.sheet_encoding.specs.declared.parse.Parse.{Parse}
 use Rattle.sheet_encoding.specs.declared.parse.Parse.the-variants.{Sheet, Refused}
 use Rattle.sheet_encoding.specs.Bytes.{byteAt, numberAt, numbersAt}
-use Rattle.sheet_encoding.specs.Text.{refusedLine, resultLine}
-use Rattle.sheet_encoding.specs.Parse.{parseSheet, directionsAt, exponentsAt, tasksAt}
+use Rattle.sheet_encoding.specs.Text.{resultLine, carrying}
+use Rattle.sheet_encoding.specs.Limits.{outputLimit}
+use Rattle.sheet_encoding.specs.Parse.{sheetNumbered, directionAt, exponentAt, tasksAt, parseSheet}
 
--- ---- one task: n by n matrices, outputs of n * n numbers, a workspace of 8,192
+-- ---- one task: n by n matrices, outputs of n * n numbers, and a workspace
+
+-- the numbers of the workspace that every task is lent
+abbrev pub workspaceLength : ℕ
+workspaceLength = 8192
 
 -- codes 0 to 5, of the matrix a; p is the exponent of code 3
 unfoldable pub valueFor : Format → ℕ → List Float → Float → ℕ → Result (List Float)
 valueFor f n a p code =
-    cond (eqb code 0) (expm f n n a (n * n) 8192)
-    (cond (eqb code 1) (logm f n n a (n * n) 8192)
-    (cond (eqb code 2) (sqrtm f n n a (n * n) 8192)
-    (cond (eqb code 3) (powm f n n a (n * n) 8192 p)
-    (cond (eqb code 4) (cosm f n n a (n * n) 8192)
-    (sinm f n n a (n * n) 8192)))))
+    cond (eqb code 0) (expm f n n a (n * n) workspaceLength)
+    (cond (eqb code 1) (logm f n n a (n * n) workspaceLength)
+    (cond (eqb code 2) (sqrtm f n n a (n * n) workspaceLength)
+    (cond (eqb code 3) (powm f n n a (n * n) workspaceLength p)
+    (cond (eqb code 4) (cosm f n n a (n * n) workspaceLength)
+    (sinm f n n a (n * n) workspaceLength)))))
 
 -- codes 6 to 8, of the matrix a in the direction e
 unfoldable pub derivativeFor : Format → ℕ → List Float → List Float → ℕ → Result Both
 derivativeFor f n a e code =
-    cond (eqb code 6) (frechetExpm f n n a n n e (n * n) (n * n) 8192)
-    (cond (eqb code 7) (frechetLogm f n n a n n e (n * n) (n * n) 8192)
-    (frechetSqrtm f n n a n n e (n * n) (n * n) 8192))
+    cond (eqb code 6) (frechetExpm f n n a n n e (n * n) (n * n) workspaceLength)
+    (cond (eqb code 7) (frechetLogm f n n a n n e (n * n) (n * n) workspaceLength)
+    (frechetSqrtm f n n a n n e (n * n) (n * n) workspaceLength))
 
 -- a result with its outputs as one list: the first before the second, and of a condition the ratio only
 unfoldable pub both : Result Both → Result (List Float)
@@ -44,13 +49,6 @@ both (done s b) = done s (b .value ++ b .derivative)
 unfoldable pub ratio : Result Condition → Result (List Float)
 ratio (refused k x y) = refused k x y
 ratio (done s c) = done s (c .ratio ∷ [])
-
--- direction i and exponent i of a sheet of order n with d directions
-abbrev pub directionAt : ℕ → ℕ → ℕ
-directionAt n i = directionsAt n + 1 + i * (8 * (n * n))
-
-abbrev pub exponentAt : ℕ → ℕ → ℕ → ℕ
-exponentAt n d i = exponentsAt n d + 1 + i * 8
 
 -- the exponent at p where the code is 3, and +0 otherwise
 abbrev pub exponentFor : Format → List ℕ → ℕ → ℕ → Float
@@ -62,30 +60,34 @@ taskResult f s n d code i =
     let a = numbersAt f s 1 (n * n) in
     cond (ltb code 6) (valueFor f n a (exponentFor f s code (exponentAt n d i)) code)
     (cond (ltb code 9) (both (derivativeFor f n a (numbersAt f s (directionAt n i) (n * n)) code))
-    (ratio (condExpm f n n a 8192)))
+    (ratio (condExpm f n n a workspaceLength)))
 
 -- ---- the lines
+
+-- task k, from 0, of those from q on; its number is from 1
+abbrev pub taskLine : Format → List ℕ → ℕ → ℕ → ℕ → ℕ → List ℕ
+taskLine f s n d q k = resultLine f (k + 1) (taskResult f s n d (byteAt s (q + 2 * k)) (byteAt s (q + 2 * k + 1)))
 
 -- the first k tasks of those from q on
 unfoldable pub taskLines : Format → List ℕ → ℕ → ℕ → ℕ → ℕ → List ℕ
 taskLines f s n d q zero = []
-taskLines f s n d q (suc k) = taskLines f s n d q k ++ resultLine f (suc k) (taskResult f s n d (byteAt s (q + 2 * k)) (byteAt s (q + 2 * k + 1)))
+taskLines f s n d q (suc k) = taskLines f s n d q k ++ taskLine f s n d q k
 
 -- a refused sheet has one line, with task number 0
 unfoldable pub linesOf : Format → List ℕ → Parse → List ℕ
 linesOf f s (Sheet n d e t) = taskLines f s n d (tasksAt n d e + 1) t
-linesOf f s (Refused k p) = refusedLine 0 k p 0
+linesOf f s (Refused why) = resultLine f 0 (carrying [] (sheetNumbered why))
 
 -- all that is written for the sheet s
 unfoldable pub sheetLines : Format → List ℕ → List ℕ
 sheetLines f s = linesOf f s (parseSheet s)
 
--- ---- what functions ask for and leave
+-- ---- the entry
 
--- An output of fewer than 35,000 bytes is left as it was, and 0 reported. Any other begins with the lines, and is as it was after them. There are never
--- more than 35,000 bytes of lines.
+-- An output of fewer than `outputLimit` bytes is left as it was, and 0 reported. Any other begins with the lines, and is as it was after them. There are
+-- never more than `outputLimit` bytes of lines.
 pub record Entered (f : Format) (s out out′ : List ℕ) (r : ℕ) : Type 0 where
-  pub refused : length out < 35000 → (r ≡ 0) × (out′ ≡ out)
-  pub written : 35000 ≤ length out → (r ≡ length (sheetLines f s)) × (out′ ≡ sheetLines f s ++ drop (length (sheetLines f s)) out)
+  pub refused : length out < outputLimit → (r ≡ 0) × (out′ ≡ out)
+  pub written : outputLimit ≤ length out → (r ≡ length (sheetLines f s)) × (out′ ≡ sheetLines f s ++ drop (length (sheetLines f s)) out)
   pub within : r ≤ length out
-  pub short : r ≤ 35000
+  pub short : r ≤ outputLimit

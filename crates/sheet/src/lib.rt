@@ -2,7 +2,6 @@
 ghost use lib.Ieee.{binary64};
 ghost use Rattle.sheet.specs.Tasks.{Entered};
 
-mod number;
 mod position;
 mod run;
 mod task;

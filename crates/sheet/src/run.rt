@@ -3,17 +3,15 @@ ghost use mathlib.Core.Path.{_≡_};
 ghost use Prim.Native.Nat.{_+_, _*_, _≤_};
 ghost use lib.ListN.{length};
 ghost use lib.Ieee.{binary64};
+ghost use Rattle.sheet_encoding.specs.Limits.{outputLimit};
 ghost use Rattle.sheet_encoding.specs.Parse.{SheetIs, tasksAt};
-ghost use Rattle.sheet.specs.Tasks.{taskLines, sheetLines};
+ghost use Rattle.sheet.specs.Tasks.{workspaceLength, taskLines, sheetLines};
 ghost use Rattle.sheet.specs.Kernels.{TasksRoom};
 ghost use Rattle.sheet_encoding.specs.Kernels.{AllLines};
-use crate::number::are_roots;
-use crate::number::run_roots;
 use crate::position::exponent_at;
 use crate::task::run_task;
 use arithmetic_matrices::workspace::small_room;
-use sheet_encoding::line::coded;
-use sheet_encoding::line::put_refused;
+use sheet_encoding::line::put_sheet_refused;
 use sheet_encoding::parse::Parse;
 use sheet_encoding::parse::parse_sheet;
 use sheet_encoding::reading::read_numbers;
@@ -60,7 +58,7 @@ fn run_in(
     w: &mut [f64],
 ) -> usize
     requires { ⌜ SheetIs (now s) n d e t ⌝ }
-    requires { ⌜ (35000 ≤ length (now out)) × (length (now w) ≡ 8192) ⌝ }
+    requires { ⌜ (outputLimit ≤ length (now out)) × (length (now w) ≡ workspaceLength) ⌝ }
     requires { ⌜ (length (now a) ≡ n * n) × (length (now x) ≡ n * n) × (length (now y) ≡ n * n) × (length (now z) ≡ n * n) ⌝ }
     ensures { λ r. ⌜ AllLines (now (out .entry)) (taskLines binary64 (now (s .entry)) n d (tasksAt n d e + 1) t) (now (out .exit)) r ⌝ }
 {
@@ -69,18 +67,17 @@ fn run_in(
     run_tasks(s, q, n, d, t, out, a, x, y, z, w)
 }
 
+// Room for a workspace.
+fn workspace_room() -> [f64; 8192]
+    ensures { λ r. ⌜ workspaceLength ≡ length r ⌝ }
+{
+    [0.0f64; 8192]
+}
+
 // `run_in` with room of its own.
-fn run_with_room(
-    s: &[u8],
-    n: usize,
-    d: usize,
-    e: usize,
-    t: usize,
-    out: &mut [u8],
-    w: &mut [f64],
-) -> usize
+fn run_accepted(s: &[u8], n: usize, d: usize, e: usize, t: usize, out: &mut [u8]) -> usize
     requires { ⌜ SheetIs (now s) n d e t ⌝ }
-    requires { ⌜ (35000 ≤ length (now out)) × (length (now w) ≡ 8192) ⌝ }
+    requires { ⌜ outputLimit ≤ length (now out) ⌝ }
     ensures { λ r. ⌜ AllLines (now (out .entry)) (taskLines binary64 (now (s .entry)) n d (tasksAt n d e + 1) t) (now (out .exit)) r ⌝ }
 {
     let count = n * n;
@@ -88,6 +85,7 @@ fn run_with_room(
     let mut x = small_room();
     let mut y = small_room();
     let mut z = small_room();
+    let mut w = workspace_room();
     run_in(
         s,
         n,
@@ -99,40 +97,17 @@ fn run_with_room(
         &mut x[..count],
         &mut y[..count],
         &mut z[..count],
-        w,
+        &mut w,
     )
-}
-
-// Room for a workspace.
-fn workspace_room() -> [f64; 8192]
-    ensures { λ r. ⌜ 8192 ≡ length r ⌝ }
-{
-    [0.0f64; 8192]
-}
-
-// The lines of an accepted sheet. Where every task is the root of a number no workspace is made: writing its 8,192 numbers would take as long as the tasks.
-fn run_accepted(s: &[u8], n: usize, d: usize, e: usize, t: usize, out: &mut [u8]) -> usize
-    requires { ⌜ SheetIs (now s) n d e t ⌝ }
-    requires { ⌜ 35000 ≤ length (now out) ⌝ }
-    ensures { λ r. ⌜ AllLines (now (out .entry)) (taskLines binary64 (now (s .entry)) n d (tasksAt n d e + 1) t) (now (out .exit)) r ⌝ }
-{
-    if n == 1 {
-        let q = exponent_at(n, d, e) + 1;
-        if are_roots(s, q, t) {
-            return run_roots(s, q, t, out);
-        }
-    }
-    let mut w = workspace_room();
-    run_with_room(s, n, d, e, t, out, &mut w)
 }
 
 // The lines of a sheet.
 pub fn run(s: &[u8], out: &mut [u8]) -> usize
-    requires { ⌜ 35000 ≤ length (now out) ⌝ }
+    requires { ⌜ outputLimit ≤ length (now out) ⌝ }
     ensures { λ r. ⌜ AllLines (now (out .entry)) (sheetLines binary64 (now (s .entry))) (now (out .exit)) r ⌝ }
 {
     match parse_sheet(s) {
-        Parse::Refused(k, p) => put_refused(out, 0, 0, coded(k, p, 0)),
+        Parse::Refused(why) => put_sheet_refused(out, why),
         Parse::Sheet(n, d, e, t) => run_accepted(s, n, d, e, t, out),
     }
 }

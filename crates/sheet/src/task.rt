@@ -9,7 +9,8 @@ ghost use Rattle.arithmetic_questions.specs.Outputs.{OneOutputWith, TwoOutputsW
 ghost use Rattle.functions_definitions.specs.Calls.{condExpm};
 ghost use Rattle.sheet_encoding.specs.Bytes.{byteAt, numbersAt};
 ghost use Rattle.sheet_encoding.specs.Text.{resultLine};
-ghost use Rattle.sheet.specs.Tasks.{valueFor, derivativeFor, both, ratio, directionAt, exponentAt, exponentFor, taskResult};
+ghost use Rattle.sheet_encoding.specs.Parse.{matrixSize, directionAt, exponentAt};
+ghost use Rattle.sheet.specs.Tasks.{workspaceLength, valueFor, derivativeFor, both, ratio, exponentFor, taskResult};
 ghost use Rattle.sheet.specs.Kernels.{TaskRoom, TaskReady};
 ghost use Rattle.sheet_encoding.specs.Kernels.{Lined};
 use crate::position::direction_at;
@@ -31,7 +32,7 @@ use sheet_encoding::reading::read_numbers;
 
 // The function with a code from 0 to 5 of the n by n matrix a is written to x. p is the exponent of code 3.
 fn value(code: usize, n: usize, a: &[f64], p: f64, x: &mut [f64], w: &mut [f64]) -> Answer
-    requires { ⌜ (length (now x) ≡ n * n) × (length (now w) ≡ 8192) ⌝ }
+    requires { ⌜ (length (now x) ≡ n * n) × (length (now w) ≡ workspaceLength) ⌝ }
     ensures { λ r. ⌜ OneOutputWith false (valueFor binary64 n (now (a .entry)) p code) (r .outcome) (now (x .entry)) (now (x .exit)) (now (w .entry)) (now (w .exit)) ⌝ }
 {
     if code == 0 {
@@ -62,7 +63,7 @@ fn derivative(
     y: &mut [f64],
     w: &mut [f64],
 ) -> Answer
-    requires { ⌜ (length (now x) ≡ n * n) × (length (now y) ≡ n * n) × (length (now w) ≡ 8192) ⌝ }
+    requires { ⌜ (length (now x) ≡ n * n) × (length (now y) ≡ n * n) × (length (now w) ≡ workspaceLength) ⌝ }
     ensures { λ r. ⌜ TwoOutputsWith false (derivativeFor binary64 n (now (a .entry)) (now (e .entry)) code) (r .outcome) (now (x .entry)) (now (x .exit)) (now (y .entry)) (now (y .exit)) (now (w .entry)) (now (w .exit)) ⌝ }
 {
     if code == 6 {
@@ -123,7 +124,7 @@ fn derivative_line(
 ) -> usize
     requires { ⌜ TaskRoom (now out) at task n (now a) (now w) ⌝ }
     requires { ⌜ (length (now e) ≡ n * n) × (length (now x) ≡ n * n) × (length (now y) ≡ n * n) ⌝ }
-    requires { ⌜ (index ≤ 8) × (directionAt n index + 8 * (n * n) ≤ length (now s)) ⌝ }
+    requires { ⌜ (index ≤ 8) × (directionAt n index + matrixSize n ≤ length (now s)) ⌝ }
     ensures { λ r. ⌜ Lined (now (out .entry)) at (resultLine binary64 task (both (derivativeFor binary64 n (now (a .entry)) (numbersAt binary64 (now (s .entry)) (directionAt n index) (n * n)) code))) (now (out .exit)) r ⌝ }
 {
     read_numbers(s, direction_at(n, index), e);
@@ -142,11 +143,12 @@ fn condition_line(
     w: &mut [f64],
 ) -> usize
     requires { ⌜ TaskRoom (now out) at task n (now a) (now w) ⌝ }
-    ensures { λ r. ⌜ Lined (now (out .entry)) at (resultLine binary64 task (ratio (condExpm binary64 n n (now (a .entry)) 8192))) (now (out .exit)) r ⌝ }
+    ensures { λ r. ⌜ Lined (now (out .entry)) at (resultLine binary64 task (ratio (condExpm binary64 n n (now (a .entry)) workspaceLength))) (now (out .exit)) r ⌝ }
 {
     let answer = cond_expm_with(n, n, a, w, false);
     let outcome = answer.outcome;
-    let ratio = [answer.ratio; 1];
+    let condition = answer.condition;
+    let ratio = [condition.ratio; 1];
     put_answer(out, at, task, outcome, &ratio, &[])
 }
 

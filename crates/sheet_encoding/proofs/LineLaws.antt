@@ -4,12 +4,10 @@ use mathlib.Core.Path.{_≡_, ap, sym, _∙_}
 use mathlib.Core.List.{List, _++_, append-assoc}
 use lib.Ieee.{Float, Format}
 use Rattle.arithmetic_questions.specs.Result.{Result, refused}
-use Rattle.arithmetic_questions.specs.Answers.{numbered, reported}
+use Rattle.arithmetic_questions.specs.Answers.{reported}
 use Rattle.arithmetic_questions.specs.declared.answer.Outcome.{Outcome}
-use Rattle.arithmetic_questions.specs.declared.answer.Outcome.the-variants.{Done, Refused}
-use Rattle.arithmetic_questions.specs.declared.answer.Refusal.{Refusal}
-use Rattle.sheet_encoding.specs.Text.{newline, numbersText, refusedLine, doneHead, doneLine, resultLine}
-use Rattle.sheet_encoding.specs.Kernels.{carrying}
+use Rattle.arithmetic_questions.specs.declared.answer.Outcome.the-variants.{Done}
+use Rattle.sheet_encoding.specs.Text.{newline, numbersText, refusedLine, doneHead, doneLine, resultLine, carrying}
 use Rattle.sheet_encoding.proofs.TextLaws.{numbersText-append}
 
 -- a refusal by its number and details
@@ -26,6 +24,6 @@ pub answer-done : (f : Format) (task s : ℕ) (o : Outcome) (m : List Float) →
 unfolding resultLine carrying
 answer-done f task s o m e = rw e
 
-pub answer-no : (f : Format) (task k x y : ℕ) (o : Outcome) (why : Refusal) (m : List Float) → o ≡ Refused why → numbered why ≡ refused k x y → refusedLine task k x y ≡ resultLine f task (carrying m (reported o))
+pub refused-line : (f : Format) (task k x y : ℕ) (q : Result (Unit {0})) (m : List Float) → q ≡ refused k x y → refusedLine task k x y ≡ resultLine f task (carrying m q)
 unfolding resultLine carrying
-answer-no f task k x y o why m e h = rw (e, h)
+refused-line f task k x y q m e = rw e

@@ -1,29 +1,25 @@
 -- Text written into an output at a cursor, one piece after the other. Only the contracts of kernels cite it. Definitions only.
 use Prim.Native.Nat.{_≤_, ℕ, _+_}
+use mathlib.Core.Path.{_≡_}
 use mathlib.Core.List.{List, _++_}
+use lib.ListN.{length, take, drop}
 use lib.Ieee.{Float}
 use Rattle.arithmetic_questions.specs.Result.{Result, refused, done}
--- an outcome with the numbers m, where it is done
-use Rattle.sheet_encoding.specs.declared.parse.Step.{Step}
-use Rattle.sheet_encoding.specs.declared.parse.Step.the-variants.{Value, Bad}
-use mathlib.Core.Path.{_≡_}
-use lib.ListN.{length, take, drop}
 use Rattle.arithmetic_questions.specs.Answers.{reported}
 use Rattle.arithmetic_questions.specs.declared.answer.Outcome.{Outcome}
-
-unfoldable pub carrying : List Float → Result (Unit {0}) → Result (List Float)
-carrying m (refused k x y) = refused k x y
-carrying m (done s a) = done s m
+use Rattle.sheet_encoding.specs.declared.parse.Read.{Read}
+use Rattle.sheet_encoding.specs.declared.parse.Read.the-variants.{Value, No}
+use Rattle.sheet_encoding.specs.Limits.{taskLimit, lineLimit, outputLimit}
 
 -- halvings are at most 1,024, so that a line has room for them
 abbrev pub Few : {A : Type 0} → Result A → Type 0
 Few (refused k x y) = Unit {0}
 Few (done s a) = s ≤ 1024
 
--- the value of a step, and 0 for a refusal
-abbrev pub valueOf : Step → ℕ
+-- the value that was read, and 0 for a refusal
+abbrev pub valueOf : Read → ℕ
 valueOf (Value v) = v
-valueOf (Bad k p) = 0
+valueOf (No why) = 0
 
 -- the list w with the part from a on replaced by p
 abbrev pub replaced : {A : Type 0} → List A → ℕ → List A → List A
@@ -35,19 +31,19 @@ pub record Wrote (was : List ℕ) (at : ℕ) (t : List ℕ) (out : List ℕ) (en
   pub past : end ≡ at + length t
   pub fits : at + length t ≤ length was
 
--- the same for a line, of which 16 fit into 35,000 bytes
+-- the same for a line
 pub record Lined (was : List ℕ) (at : ℕ) (t : List ℕ) (out : List ℕ) (end : ℕ) : Type 0 where
   pub wrote : Wrote was at t out end
-  pub short : end ≤ at + 2187
+  pub short : end ≤ at + lineLimit
 
 -- all lines of a sheet, from the start of an output
 pub record AllLines (was t out : List ℕ) (end : ℕ) : Type 0 where
   pub wrote : Wrote was 0 t out end
-  pub short : end ≤ 35000
+  pub short : end ≤ outputLimit
 
 -- room for the line of a task with an outcome and two outputs
 pub record LineRoom (out : List ℕ) (at task : ℕ) (outcome : Outcome) (first second : List Float) : Type 0 where
-  pub space : at + 2187 ≤ length out
-  pub number : task ≤ 16
+  pub space : at + lineLimit ≤ length out
+  pub number : task ≤ taskLimit
   pub few : Few (reported outcome)
   pub numbers : length first + length second ≤ 128

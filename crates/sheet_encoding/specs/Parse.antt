@@ -1,109 +1,159 @@
--- What the bytes of a sheet are: its order and the counts of its directions, exponents and tasks, or a refusal. Refusal 15 has the position of the first
--- missing or extra byte, 16 that of a count, code or index out of range; a byte's presence is asked before its range. Definitions only.
+-- What the bytes of a sheet are: its order and the counts of its directions, exponents and tasks, or a refusal. It is read from left to right, and a byte's
+-- presence is asked before its range. Definitions only.
 use Prim.Native.Nat.{ℕ, zero, suc, _+_, _*_, _≤_, _<_}
-use mathlib.Core.Bool.{Bool, true, false, cond}
+use mathlib.Core.Path.{_≡_}
+use mathlib.Core.Bool.{cond}
 use mathlib.Core.List.{List}
 use lib.Dec.{ltb, leb, eqb}
 use lib.ListN.{length}
-use Rattle.sheet_encoding.specs.declared.parse.Step.{Step}
-use Rattle.sheet_encoding.specs.declared.parse.Step.the-variants.{Value, Bad}
+use Rattle.arithmetic_questions.specs.Result.{Result, refused}
+use Rattle.sheet_encoding.specs.declared.parse.SheetRefusal.{SheetRefusal}
+use Rattle.sheet_encoding.specs.declared.parse.SheetRefusal.the-variants.{ByteMissingOrExtra, OutOfRange}
+use Rattle.sheet_encoding.specs.declared.parse.Read.{Read}
+use Rattle.sheet_encoding.specs.declared.parse.Read.the-variants.{Value, No}
 use Rattle.sheet_encoding.specs.declared.parse.Parse.{Parse}
 use Rattle.sheet_encoding.specs.declared.parse.Parse.the-variants.{Sheet, Refused}
+use Rattle.sheet_encoding.specs.Limits.{taskLimit, codeLimit}
 use Rattle.sheet_encoding.specs.Bytes.{byteAt}
 
--- a where the test holds, and b otherwise
-abbrev pub pick : {A : Type 0} → Bool → A → A → A
-pick true a b = a
-pick false a b = b
+-- document 01's number of a sheet's refusal, with the position of the byte
+abbrev pub sheetNumbered : SheetRefusal → Result (Unit {0})
+sheetNumbered (ByteMissingOrExtra p) = refused 15 p 0
+sheetNumbered (OutOfRange p) = refused 16 p 0
+
+-- ---- where the four sections stand: each is a count byte and the items that it counts
+
+-- the bytes of an n by n matrix
+abbrev pub matrixSize : ℕ → ℕ
+matrixSize n = 8 * (n * n)
+
+-- the order stands at 0, its matrix at 1; after it the count of the directions, and direction i
+abbrev pub directionsAt : ℕ → ℕ
+directionsAt n = 1 + matrixSize n
+
+abbrev pub directionAt : ℕ → ℕ → ℕ
+directionAt n i = directionsAt n + 1 + i * matrixSize n
+
+-- after d directions the count of the exponents, and exponent i
+abbrev pub exponentsAt : ℕ → ℕ → ℕ
+exponentsAt n d = directionAt n d
+
+abbrev pub exponentAt : ℕ → ℕ → ℕ → ℕ
+exponentAt n d i = exponentsAt n d + 1 + i * 8
+
+-- after e exponents the count of the tasks, and task k
+abbrev pub tasksAt : ℕ → ℕ → ℕ → ℕ
+tasksAt n d e = exponentAt n d e
+
+abbrev pub taskAt : ℕ → ℕ → ℕ → ℕ → ℕ
+taskAt n d e k = tasksAt n d e + 1 + 2 * k
+
+-- after t tasks the sheet ends
+abbrev pub sheetLength : ℕ → ℕ → ℕ → ℕ → ℕ
+sheetLength n d e t = taskAt n d e t
+
+-- ---- bytes that are read
 
 -- the byte at p, which has to be there, and lie from lo up to, not including, hi
-unfoldable pub byteIn : List ℕ → ℕ → ℕ → ℕ → Step
-byteIn s p lo hi = pick (ltb p (length s)) (pick (leb lo (byteAt s p)) (pick (ltb (byteAt s p) hi) (Value (byteAt s p)) (Bad 16 p)) (Bad 16 p)) (Bad 15 p)
-
--- go on with the value, or stop
-abbrev pub thenStep : Step → (ℕ → Step) → Step
-thenStep (Value v) k = k v
-thenStep (Bad n p) k = Bad n p
-
-abbrev pub thenParse : Step → (ℕ → Parse) → Parse
-thenParse (Value v) k = k v
-thenParse (Bad n p) k = Refused n p
+unfoldable pub byteIn : List ℕ → ℕ → ℕ → ℕ → Read
+byteIn s p lo hi =
+    cond (ltb p (length s))
+    (cond (leb lo (byteAt s p)) (cond (ltb (byteAt s p) hi) (Value (byteAt s p)) (No (OutOfRange p))) (No (OutOfRange p)))
+    (No (ByteMissingOrExtra p))
 
 -- v, where k bytes from p on are there
-abbrev pub bytesAfter : List ℕ → ℕ → ℕ → ℕ → Step
-bytesAfter s p k v = pick (leb (p + k) (length s)) (Value v) (Bad 15 (length s))
+abbrev pub bytesAfter : List ℕ → ℕ → ℕ → ℕ → Read
+bytesAfter s p k v = cond (leb (p + k) (length s)) (Value v) (No (ByteMissingOrExtra (length s)))
 
--- a count byte and its items, each of `size` bytes: the count
-unfoldable pub section : List ℕ → ℕ → ℕ → ℕ → Step
-section s p hi size = thenStep (byteIn s p 0 hi) (λ v. bytesAfter s (p + 1) (v * size) v)
+-- go on with the value, or stop
+abbrev pub thenRead : Read → (ℕ → Read) → Read
+thenRead (Value v) k = k v
+thenRead (No why) k = No why
 
--- the order, and its matrix
-unfoldable pub order : List ℕ → Step
-order s = thenStep (byteIn s 0 1 9) (λ n. bytesAfter s 1 (8 * (n * n)) n)
+abbrev pub thenParse : Read → (ℕ → Parse) → Parse
+thenParse (Value v) k = k v
+thenParse (No why) k = Refused why
 
--- how many values the index of a task may have, with d directions and e exponents
+-- a count byte at p, from 0 to 8, and its items, each of `size` bytes: the count
+unfoldable pub section : List ℕ → ℕ → ℕ → Read
+section s p size = thenRead (byteIn s p 0 9) (λ v. bytesAfter s (p + 1) (v * size) v)
+
+-- ---- the four sections
+
+-- the order, from 1 to 8, and its matrix
+unfoldable pub order : List ℕ → Read
+order s = thenRead (byteIn s 0 1 9) (λ n. bytesAfter s 1 (matrixSize n) n)
+
+-- the directions, from 0 to 8 of n by n numbers
+abbrev pub directionCount : List ℕ → ℕ → Read
+directionCount s n = section s (directionsAt n) (matrixSize n)
+
+-- the exponents, from 0 to 8
+abbrev pub exponentCount : List ℕ → ℕ → ℕ → Read
+exponentCount s n d = section s (exponentsAt n d) 8
+
+-- the tasks, from 1 to 16: their count, and below each of them
+abbrev pub taskCount : List ℕ → ℕ → ℕ → ℕ → Read
+taskCount s n d e = byteIn s (tasksAt n d e) 1 (suc taskLimit)
+
+-- how many values the index of a task may have: it names an exponent for code 3, a direction for 6 to 8, and is 0 otherwise
 abbrev pub indexLimit : ℕ → ℕ → ℕ → ℕ
 indexLimit code d e = cond (eqb code 3) e (cond (leb 6 code) (cond (leb code 8) d 1) 1)
 
 -- the task at q: its code, and its index
-unfoldable pub task : List ℕ → ℕ → ℕ → ℕ → Step
-task s q d e = thenStep (byteIn s q 0 10) (λ code. byteIn s (q + 1) 0 (indexLimit code d e))
+unfoldable pub task : List ℕ → ℕ → ℕ → ℕ → Read
+task s q d e = thenRead (byteIn s q 0 codeLimit) (λ code. byteIn s (q + 1) 0 (indexLimit code d e))
 
 -- k tasks from q on
-unfoldable pub tasks : List ℕ → ℕ → ℕ → ℕ → ℕ → Step
+unfoldable pub tasks : List ℕ → ℕ → ℕ → ℕ → ℕ → Read
 tasks s q d e zero = Value 0
-tasks s q d e (suc k) = thenStep (task s q d e) (λ v. tasks s (q + 2) d e k)
+tasks s q d e (suc k) = thenRead (task s q d e) (λ _. tasks s (q + 2) d e k)
 
--- nothing follows p
-unfoldable pub parseEnd : List ℕ → ℕ → ℕ → ℕ → ℕ → ℕ → Parse
-parseEnd s p n d e t = pick (leb (length s) p) (Sheet n d e t) (Refused 15 p)
+-- ---- one section after the other
 
--- the tasks after their count t, which stands at p
-unfoldable pub parseEach : List ℕ → ℕ → ℕ → ℕ → ℕ → ℕ → Parse
-parseEach s p n d e t = thenParse (tasks s (p + 1) d e t) (λ v. parseEnd s (p + 1 + 2 * t) n d e t)
+-- nothing follows the tasks
+unfoldable pub parseEnd : List ℕ → ℕ → ℕ → ℕ → ℕ → Parse
+parseEnd s n d e t = cond (leb (length s) (sheetLength n d e t)) (Sheet n d e t) (Refused (ByteMissingOrExtra (sheetLength n d e t)))
 
--- the section of the tasks at p
-unfoldable pub parseTasks : List ℕ → ℕ → ℕ → ℕ → ℕ → Parse
-parseTasks s p n d e = thenParse (byteIn s p 1 17) (λ t. parseEach s p n d e t)
+-- the t tasks, and the end
+unfoldable pub parseEach : List ℕ → ℕ → ℕ → ℕ → ℕ → Parse
+parseEach s n d e t = thenParse (tasks s (tasksAt n d e + 1) d e t) (λ _. parseEnd s n d e t)
 
--- the section of the exponents at p, and what follows
-unfoldable pub parseExponents : List ℕ → ℕ → ℕ → ℕ → Parse
-parseExponents s p n d = thenParse (section s p 9 8) (λ e. parseTasks s (p + 1 + e * 8) n d e)
+-- the section of the tasks
+unfoldable pub parseTasks : List ℕ → ℕ → ℕ → ℕ → Parse
+parseTasks s n d e = thenParse (taskCount s n d e) (λ t. parseEach s n d e t)
 
--- the section of the directions at p, and what follows
-unfoldable pub parseDirections : List ℕ → ℕ → ℕ → Parse
-parseDirections s p n = thenParse (section s p 9 (8 * (n * n))) (λ d. parseExponents s (p + 1 + d * (8 * (n * n))) n d)
+-- the section of the exponents, and what follows
+unfoldable pub parseExponents : List ℕ → ℕ → ℕ → Parse
+parseExponents s n d = thenParse (exponentCount s n d) (λ e. parseTasks s n d e)
+
+-- the section of the directions, and what follows
+unfoldable pub parseDirections : List ℕ → ℕ → Parse
+parseDirections s n = thenParse (directionCount s n) (λ d. parseExponents s n d)
 
 -- a whole sheet
 unfoldable pub parseSheet : List ℕ → Parse
-parseSheet s = thenParse (order s) (λ n. parseDirections s (1 + 8 * (n * n)) n)
-
--- the positions of the counts of directions, exponents and tasks
-abbrev pub directionsAt : ℕ → ℕ
-directionsAt n = 1 + 8 * (n * n)
-
-abbrev pub exponentsAt : ℕ → ℕ → ℕ
-exponentsAt n d = directionsAt n + 1 + d * (8 * (n * n))
-
-abbrev pub tasksAt : ℕ → ℕ → ℕ → ℕ
-tasksAt n d e = exponentsAt n d + 1 + e * 8
+parseSheet s = thenParse (order s) (λ n. parseDirections s n)
 
 -- ---- an accepted sheet
 
--- a task at q whose code and index are in range
+-- the task at q has a code and an index in range
 pub record TaskIs (s : List ℕ) (q d e : ℕ) : Type 0 where
-  pub there : q + 1 < length s
-  pub code : byteAt s q < 10
+  pub code : byteAt s q < codeLimit
   pub index : byteAt s (q + 1) < indexLimit (byteAt s q) d e
 
--- counts in range, with all that they count
+-- The sheets of order n with d directions, e exponents and t tasks that are accepted, and no others (`sheet-is` and `is-sheet` in proofs/ParseLaws.antt): the
+-- four count bytes with their ranges, every task, and the length.
 pub record SheetIs (s : List ℕ) (n d e t : ℕ) : Type 0 where
+  pub order-byte : byteAt s 0 ≡ n
   pub least : 1 ≤ n
   pub most : n ≤ 8
+  pub directions-byte : byteAt s (directionsAt n) ≡ d
   pub directions : d ≤ 8
+  pub exponents-byte : byteAt s (exponentsAt n d) ≡ e
   pub exponents : e ≤ 8
-  pub count : t ≤ 16
-  pub matrix : directionsAt n ≤ length s
-  pub direction : exponentsAt n d ≤ length s
-  pub exponent : tasksAt n d e ≤ length s
-  pub each : (k : ℕ) → k < t → TaskIs s (tasksAt n d e + 1 + 2 * k) d e
+  pub tasks-byte : byteAt s (tasksAt n d e) ≡ t
+  pub some : 1 ≤ t
+  pub count : t ≤ taskLimit
+  pub each : (k : ℕ) → k < t → TaskIs s (taskAt n d e k) d e
+  pub long : length s ≡ sheetLength n d e t

@@ -6,7 +6,7 @@ use lib.Dec.{ltb}
 use lib.Ieee.{Float, Format, toBits}
 use Rattle.arithmetic_questions.specs.Result.{Result, refused, done}
 
--- a digit below 16: `0` to `9`, then `a` to `f`
+-- the character of a digit below 16: `0` to `9`, then `a` to `f`
 abbrev pub glyph : ℕ → ℕ
 glyph d = cond (ltb d 10) (48 + d) (87 + d)
 
@@ -15,7 +15,7 @@ unfoldable pub hexDigits : ℕ → ℕ → List ℕ
 hexDigits zero n = []
 hexDigits (suc k) n = hexDigits k (n / 16) ++ (glyph (n % 16) ∷ [])
 
--- nothing, or t
+-- nothing where the test holds, and t otherwise
 abbrev pub orNone : Bool → List ℕ → List ℕ
 orNone true t = []
 orNone false t = t
@@ -43,7 +43,7 @@ noWord = 110 ∷ 111 ∷ []
 abbrev pub newline : List ℕ
 newline = 10 ∷ []
 
--- a field after a space
+-- a space, and the text t of a field
 abbrev pub field : List ℕ → List ℕ
 field t = (32 ∷ []) ++ t
 
@@ -72,3 +72,8 @@ doneLine f task halvings m = doneHead task halvings ++ numbersText f m ++ newlin
 unfoldable pub resultLine : Format → ℕ → Result (List Float) → List ℕ
 resultLine f task (refused k x y) = refusedLine task k x y
 resultLine f task (done s m) = doneLine f task s m
+
+-- the result that has this outcome and, where it is done, the numbers m
+unfoldable pub carrying : List Float → Result (Unit {0}) → Result (List Float)
+carrying m (refused k x y) = refused k x y
+carrying m (done s a) = done s m

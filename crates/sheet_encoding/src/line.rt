@@ -1,13 +1,16 @@
 // The line of a task.
 ghost use mathlib.Core.Path.{_≡_};
 ghost use Prim.Native.Nat.{_+_, _≤_, _<_};
-ghost use mathlib.Core.List.{_++_};
+ghost use mathlib.Core.List.{[], _++_};
 ghost use lib.ListN.{length};
 ghost use lib.Ieee.{binary64};
 ghost use Rattle.arithmetic_questions.specs.Answers.{numbered, reported};
 ghost use Rattle.arithmetic_questions.specs.Result.{refused};
-ghost use Rattle.sheet_encoding.specs.Text.{refusedLine, doneHead, doneLine, resultLine};
-ghost use Rattle.sheet_encoding.specs.Kernels.{carrying, Wrote, Lined, LineRoom};
+ghost use Rattle.sheet_encoding.specs.Limits.{lineLimit};
+ghost use Rattle.sheet_encoding.specs.Parse.{sheetNumbered};
+ghost use Rattle.sheet_encoding.specs.Text.{refusedLine, doneHead, doneLine, resultLine, carrying};
+ghost use Rattle.sheet_encoding.specs.Kernels.{Wrote, Lined, LineRoom};
+use crate::parse::SheetRefusal;
 use crate::writing::put_byte;
 use crate::writing::put_decimal;
 use crate::writing::put_detail;
@@ -18,14 +21,14 @@ use arithmetic_questions::answer::Outcome;
 use arithmetic_questions::answer::Refusal;
 
 // The number of a refusal and its two details, 0 where there are none.
-pub struct Code {
-    pub number: usize,
-    pub first: usize,
-    pub second: usize,
+struct Code {
+    number: usize,
+    first: usize,
+    second: usize,
 }
 
 // The line of a refused task or sheet.
-pub fn put_refused(out: &mut [u8], at: usize, task: usize, code: Code) -> usize
+fn put_refused(out: &mut [u8], at: usize, task: usize, code: Code) -> usize
     requires { ⌜ at + 87 ≤ length (now out) ⌝ }
     ensures { λ r. ⌜ Wrote (now (out .entry)) at (refusedLine task (code .number) (code .first) (code .second)) (now (out .exit)) r ⌝ }
     ensures { λ r. ⌜ r ≤ at + 87 ⌝ }
@@ -56,7 +59,7 @@ fn put_done(
     first: &[f64],
     second: &[f64],
 ) -> usize
-    requires { ⌜ (at + 2187 ≤ length (now out)) × (task < 100) × (halvings < 10000) × (length (now first) + length (now second) ≤ 128) ⌝ }
+    requires { ⌜ (at + lineLimit ≤ length (now out)) × (task < 100) × (halvings < 10000) × (length (now first) + length (now second) ≤ 128) ⌝ }
     ensures { λ r. ⌜ Lined (now (out .entry)) at (doneLine binary64 task halvings (now (first .entry) ++ now (second .entry))) (now (out .exit)) r ⌝ }
 {
     let e = put_head(out, at, task, halvings);
@@ -66,7 +69,7 @@ fn put_done(
 }
 
 // A refusal with this number and these details.
-pub fn coded(number: usize, first: usize, second: usize) -> Code
+fn coded(number: usize, first: usize, second: usize) -> Code
     ensures { λ r. ⌜ (r .number ≡ number) × (r .first ≡ first) × (r .second ≡ second) ⌝ }
 {
     Code {
@@ -77,7 +80,7 @@ pub fn coded(number: usize, first: usize, second: usize) -> Code
 }
 
 // The number and the details of a refusal.
-pub fn code_of(why: Refusal) -> Code
+fn code_of(why: Refusal) -> Code
     ensures { λ r. ⌜ numbered why ≡ refused (r .number) (r .first) (r .second) ⌝ }
 {
     match why {
@@ -96,6 +99,25 @@ pub fn code_of(why: Refusal) -> Code
         Refusal::NotConverged => coded(13, 0, 0),
         Refusal::SingularColumn(x) => coded(14, x, 0),
     }
+}
+
+// The number and the details of a sheet's refusal.
+fn sheet_code_of(why: SheetRefusal) -> Code
+    ensures { λ r. ⌜ sheetNumbered why ≡ refused (r .number) (r .first) (r .second) ⌝ }
+{
+    match why {
+        SheetRefusal::ByteMissingOrExtra(p) => coded(15, p, 0),
+        SheetRefusal::OutOfRange(p) => coded(16, p, 0),
+    }
+}
+
+// The line of a refused sheet, from the start of an output. Its task number is 0.
+pub fn put_sheet_refused(out: &mut [u8], why: SheetRefusal) -> usize
+    requires { ⌜ 87 ≤ length (now out) ⌝ }
+    ensures { λ r. ⌜ Wrote (now (out .entry)) 0 (resultLine binary64 0 (carrying [] (sheetNumbered why))) (now (out .exit)) r ⌝ }
+    ensures { λ r. ⌜ r ≤ 87 ⌝ }
+{
+    put_refused(out, 0, 0, sheet_code_of(why))
 }
 
 // The line of a task with this outcome; its outputs are written where it is done.

@@ -1,71 +1,78 @@
 // The four sections of a sheet, read from left to right.
 ghost use mathlib.Core.Path.{_≡_};
 ghost use Prim.Native.Nat.{_+_, _*_, _≤_, _<_};
-ghost use Rattle.sheet_encoding.specs.Parse.{byteIn, bytesAfter, indexLimit, parseEnd, parseEach, parseTasks, parseExponents, parseDirections, parseSheet, order as orderOf, section as sectionOf, task as taskOf, tasks as tasksOf};
+ghost use Rattle.sheet_encoding.specs.Limits.{taskLimit};
+ghost use Rattle.sheet_encoding.specs.Parse.{directionsAt, exponentsAt, tasksAt, sheetLength, byteIn, bytesAfter, indexLimit, parseEnd, parseEach, parseTasks, parseExponents, parseDirections, parseSheet, order as orderOf, section as sectionOf, task as taskOf, tasks as tasksOf};
 ghost use Rattle.sheet_encoding.specs.Kernels.{valueOf};
 
-// A value, or a refusal's number and position.
-pub enum Step {
-    Value(usize),
-    Bad(usize, usize),
+// Why a sheet is refused: the position of the first missing or extra byte, or that of a count, code or index out of range.
+pub enum SheetRefusal {
+    ByteMissingOrExtra(usize),
+    OutOfRange(usize),
 }
 
-// The order and the numbers of directions, exponents and tasks, or a refusal.
+// A byte's value, or why the sheet is refused.
+pub enum Read {
+    Value(usize),
+    No(SheetRefusal),
+}
+
+// The order and the numbers of directions, exponents and tasks, or why the sheet is refused.
 pub enum Parse {
     Sheet(usize, usize, usize, usize),
-    Refused(usize, usize),
+    Refused(SheetRefusal),
 }
 
 // The byte at p, from lo up to, not including, hi.
-fn byte_in(s: &[u8], p: usize, lo: usize, hi: usize) -> Step
+fn byte_in(s: &[u8], p: usize, lo: usize, hi: usize) -> Read
     ensures { λ r. ⌜ r ≡ byteIn (now (s .entry)) p lo hi ⌝ }
     ensures { λ r. ⌜ (0 < hi → valueOf r < hi) ⌝ }
 {
     if s.len() <= p {
-        return Step::Bad(15, p);
+        return Read::No(SheetRefusal::ByteMissingOrExtra(p));
     }
     let v = s[p] as usize;
     if v < lo {
-        return Step::Bad(16, p);
+        return Read::No(SheetRefusal::OutOfRange(p));
     }
     if hi <= v {
-        return Step::Bad(16, p);
+        return Read::No(SheetRefusal::OutOfRange(p));
     }
-    Step::Value(v)
+    Read::Value(v)
 }
 
 // v, where k bytes from p on are there.
-fn bytes_after(s: &[u8], p: usize, k: usize, v: usize) -> Step
+fn bytes_after(s: &[u8], p: usize, k: usize, v: usize) -> Read
     requires { ⌜ (p ≤ 10000) × (k ≤ 10000) ⌝ }
     ensures { λ r. ⌜ r ≡ bytesAfter (now (s .entry)) p k v ⌝ }
     ensures { λ r. ⌜ valueOf r ≤ v ⌝ }
 {
     if s.len() < p + k {
-        return Step::Bad(15, s.len());
+        return Read::No(SheetRefusal::ByteMissingOrExtra(s.len()));
     }
-    Step::Value(v)
+    Read::Value(v)
 }
 
 // The order, with its matrix.
-fn order(s: &[u8]) -> Step
+fn order(s: &[u8]) -> Read
     ensures { λ r. ⌜ r ≡ orderOf (now (s .entry)) ⌝ }
     ensures { λ r. ⌜ valueOf r < 9 ⌝ }
 {
     let first = byte_in(s, 0, 1, 9);
-    let Step::Value(n) = first else {
+    let Read::Value(n) = first else {
         return first;
     };
     bytes_after(s, 1, 8 * (n * n), n)
 }
 
 // A count below 9, with its items.
-fn section(s: &[u8], p: usize, size: usize) -> Step
+fn section(s: &[u8], p: usize, size: usize) -> Read
     requires { ⌜ (p < 10000) × (size ≤ 512) ⌝ }
-    ensures { λ r. ⌜ r ≡ sectionOf (now (s .entry)) p 9 size ⌝ }
+    ensures { λ r. ⌜ r ≡ sectionOf (now (s .entry)) p size ⌝ }
     ensures { λ r. ⌜ valueOf r < 9 ⌝ }
 {
     let first = byte_in(s, p, 0, 9);
-    let Step::Value(v) = first else {
+    let Read::Value(v) = first else {
         return first;
     };
     bytes_after(s, p + 1, v * size, v)
@@ -88,87 +95,88 @@ fn index_limit(code: usize, d: usize, e: usize) -> usize
 }
 
 // One task: its code and its index.
-fn task(s: &[u8], q: usize, d: usize, e: usize) -> Step
+fn task(s: &[u8], q: usize, d: usize, e: usize) -> Read
     requires { ⌜ q ≤ 10000 ⌝ }
     ensures { λ r. ⌜ r ≡ taskOf (now (s .entry)) q d e ⌝ }
 {
     let code = byte_in(s, q, 0, 10);
-    let Step::Value(v) = code else {
+    let Read::Value(v) = code else {
         return code;
     };
     byte_in(s, q + 1, 0, index_limit(v, d, e))
 }
 
 // The tasks from q on, count of them.
-fn tasks(s: &[u8], q: usize, d: usize, e: usize, count: usize) -> Step
-    requires { ⌜ (q ≤ 9000) × (count ≤ 16) ⌝ }
+fn tasks(s: &[u8], q: usize, d: usize, e: usize, count: usize) -> Read
+    requires { ⌜ (q ≤ 9000) × (count ≤ taskLimit) ⌝ }
     ensures { λ r. ⌜ r ≡ tasksOf (now (s .entry)) q d e count ⌝ }
 {
     let mut at = q;
     let mut k = count;
     while 0 < k {
         let one = task(s, at, d, e);
-        let Step::Value(_) = one else {
+        let Read::Value(_) = one else {
             return one;
         };
         at += 2;
         k -= 1;
     }
-    Step::Value(0)
+    Read::Value(0)
 }
 
-// Nothing may follow the tasks.
+// Nothing may follow the tasks, which end at p.
 fn parse_end(s: &[u8], p: usize, n: usize, d: usize, e: usize, t: usize) -> Parse
-    ensures { λ r. ⌜ r ≡ parseEnd (now (s .entry)) p n d e t ⌝ }
+    requires { ⌜ p ≡ sheetLength n d e t ⌝ }
+    ensures { λ r. ⌜ r ≡ parseEnd (now (s .entry)) n d e t ⌝ }
 {
     if p < s.len() {
-        return Parse::Refused(15, p);
+        return Parse::Refused(SheetRefusal::ByteMissingOrExtra(p));
     }
     Parse::Sheet(n, d, e, t)
 }
 
 // The tasks after their count t, which stands at p.
 fn parse_each(s: &[u8], p: usize, n: usize, d: usize, e: usize, t: usize) -> Parse
-    requires { ⌜ (p ≤ 8000) × (t ≤ 16) ⌝ }
-    ensures { λ r. ⌜ r ≡ parseEach (now (s .entry)) p n d e t ⌝ }
+    requires { ⌜ (p ≤ 8000) × (p ≡ tasksAt n d e) × (t ≤ taskLimit) ⌝ }
+    ensures { λ r. ⌜ r ≡ parseEach (now (s .entry)) n d e t ⌝ }
 {
     match tasks(s, p + 1, d, e, t) {
-        Step::Value(_) => parse_end(s, p + 1 + 2 * t, n, d, e, t),
-        Step::Bad(k, q) => Parse::Refused(k, q),
+        Read::Value(_) => parse_end(s, p + 1 + 2 * t, n, d, e, t),
+        Read::No(why) => Parse::Refused(why),
     }
 }
 
 // The section of the tasks at p.
 fn parse_tasks(s: &[u8], p: usize, n: usize, d: usize, e: usize) -> Parse
-    requires { ⌜ p ≤ 8000 ⌝ }
-    ensures { λ r. ⌜ r ≡ parseTasks (now (s .entry)) p n d e ⌝ }
+    requires { ⌜ (p ≤ 8000) × (p ≡ tasksAt n d e) ⌝ }
+    ensures { λ r. ⌜ r ≡ parseTasks (now (s .entry)) n d e ⌝ }
 {
     match byte_in(s, p, 1, 17) {
-        Step::Value(t) => parse_each(s, p, n, d, e, t),
-        Step::Bad(k, q) => Parse::Refused(k, q),
+        Read::Value(t) => parse_each(s, p, n, d, e, t),
+        Read::No(why) => Parse::Refused(why),
     }
 }
 
 // The section of the exponents at p, and what follows.
 fn parse_exponents(s: &[u8], p: usize, n: usize, d: usize) -> Parse
-    requires { ⌜ p ≤ 7000 ⌝ }
-    ensures { λ r. ⌜ r ≡ parseExponents (now (s .entry)) p n d ⌝ }
+    requires { ⌜ (p ≤ 7000) × (p ≡ exponentsAt n d) ⌝ }
+    ensures { λ r. ⌜ r ≡ parseExponents (now (s .entry)) n d ⌝ }
 {
     match section(s, p, 8) {
-        Step::Value(e) => parse_tasks(s, p + 1 + e * 8, n, d, e),
-        Step::Bad(k, q) => Parse::Refused(k, q),
+        Read::Value(e) => parse_tasks(s, p + 1 + e * 8, n, d, e),
+        Read::No(why) => Parse::Refused(why),
     }
 }
 
 // The section of the directions at p, and what follows.
 fn parse_directions(s: &[u8], p: usize, n: usize) -> Parse
-    requires { ⌜ (p ≤ 1000) × (n ≤ 8) ⌝ }
-    ensures { λ r. ⌜ r ≡ parseDirections (now (s .entry)) p n ⌝ }
+    requires { ⌜ (p ≤ 1000) × (p ≡ directionsAt n) × (n ≤ 8) ⌝ }
+    ensures { λ r. ⌜ r ≡ parseDirections (now (s .entry)) n ⌝ }
 {
     let size = 8 * (n * n);
     match section(s, p, size) {
-        Step::Value(d) => parse_exponents(s, p + 1 + d * size, n, d),
-        Step::Bad(k, q) => Parse::Refused(k, q),
+        Read::Value(d) => parse_exponents(s, p + 1 + d * size, n, d),
+        Read::No(why) => Parse::Refused(why),
     }
 }
 
@@ -177,7 +185,7 @@ pub fn parse_sheet(s: &[u8]) -> Parse
     ensures { λ r. ⌜ r ≡ parseSheet (now (s .entry)) ⌝ }
 {
     match order(s) {
-        Step::Value(n) => parse_directions(s, 1 + 8 * (n * n), n),
-        Step::Bad(k, q) => Parse::Refused(k, q),
+        Read::Value(n) => parse_directions(s, 1 + 8 * (n * n), n),
+        Read::No(why) => Parse::Refused(why),
     }
 }

@@ -1,8 +1,8 @@
 // What the lines compare: outcomes, numbers by their bits, and bytes.
 ghost use Prim.Native.Nat.{_<_};
-use arithmetic_floats::float::bits_of;
-use arithmetic_questions::answer::Outcome;
-use arithmetic_questions::answer::Refusal;
+use arithmetic::Outcome;
+use arithmetic::Refusal;
+use arithmetic::bits_of;
 
 // What each number of an output holds before a call.
 pub const LENT: f64 = 7.0;

@@ -8,10 +8,13 @@
 //         run $f 1 3000 | awk '
 //             match($0, /\| (ok|no [^ ]*)/) { k = substr($0, RSTART, RLENGTH); if (++seen[k] <= (k == "| ok" ? 45 : 3)) print }
 //         '
+//         run planted $f
 //     done > ../crates/vectors_functions/stdin
 //
 // These are the calls that are written out, and of each function's 3,000 vectors the first 45 that are done and the first 3 of each refusal, without
-// those near a power of two. Of the calls that are written out some lie near one; both counts of halvings agree there.
+// those near a power of two. Of the calls that are written out some lie near one; both counts of halvings agree there. The last line of each
+// function is planted: the last number of its outputs is wrong in the last bit, and the program must find it. So stdout says of each function that
+// one call differs, on that line.
 ghost use Prim.Native.Nat.{_≤_};
 ghost use lib.ListN.{length};
 

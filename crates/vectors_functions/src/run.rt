@@ -1,16 +1,16 @@
 // One recorded vector: the call is made with slices of the recorded lengths, and what it gives is compared.
 ghost use mathlib.Core.Path.{_≡_};
 ghost use lib.ListN.{length};
-use functions_exponential::condition::cond_expm;
-use functions_exponential::expm::expm;
-use functions_exponential::frechet::frechet_expm;
-use functions_logarithms::frechet_logm;
-use functions_logarithms::logm;
-use functions_powers::cosm;
-use functions_powers::powm;
-use functions_powers::sinm;
-use functions_roots::frechet_sqrtm;
-use functions_roots::sqrtm;
+use functions::cond_expm;
+use functions::cosm;
+use functions::expm;
+use functions::frechet_expm;
+use functions::frechet_logm;
+use functions::frechet_sqrtm;
+use functions::logm;
+use functions::powm;
+use functions::sinm;
+use functions::sqrtm;
 use vectors_recorded::after;
 use vectors_recorded::call::Shape;
 use vectors_recorded::call::number_list;
@@ -160,7 +160,12 @@ fn frechet_sqrtm_agrees(
 fn cond_expm_agrees(shape: Shape, a: &[f64], w: &mut [f64], want: &[u8]) -> bool {
     let answer = cond_expm(shape.rows, shape.columns, a, w);
     let outcome = answer.outcome;
-    let values = [answer.ratio, answer.derivative, answer.exponential];
+    let condition = answer.condition;
+    let values = [
+        condition.ratio,
+        condition.derivative_norm,
+        condition.exponential_norm,
+    ];
     same_values(want, outcome, &values, w)
 }
 

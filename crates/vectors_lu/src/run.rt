@@ -1,8 +1,8 @@
 // One recorded vector: the call is made with slices of the recorded lengths, and what it gives is compared.
 ghost use mathlib.Core.Path.{_≡_};
 ghost use lib.ListN.{length};
-use functions_kronecker::kron;
-use functions_kronecker::kron_sum;
+use functions::kron;
+use functions::kron_sum;
 use vectors_recorded::after;
 use vectors_recorded::call::Shape;
 use vectors_recorded::call::count_list;

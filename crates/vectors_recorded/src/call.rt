@@ -5,7 +5,7 @@ ghost use lib.ListN.{length};
 use crate::counts;
 use crate::numbers;
 use crate::word;
-use arithmetic_floats::float::float_of;
+use arithmetic::float_of;
 
 // The counts of a call and its exponent, and where its lists start.
 pub struct Shape {

@@ -7,8 +7,8 @@ pub mod call;
 pub mod outcome;
 pub mod tally;
 
-use arithmetic_floats::float::bits_of;
-use arithmetic_floats::float::float_of;
+use arithmetic::bits_of;
+use arithmetic::float_of;
 
 // A number, and where the next one starts.
 pub struct Number {

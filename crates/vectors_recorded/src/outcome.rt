@@ -6,9 +6,9 @@ use crate::begins;
 use crate::same_counts;
 use crate::same_numbers;
 use crate::word;
-use arithmetic_floats::float::bits_of;
-use arithmetic_questions::answer::Outcome;
-use arithmetic_questions::answer::Refusal;
+use arithmetic::Outcome;
+use arithmetic::Refusal;
+use arithmetic::bits_of;
 
 // An outcome: number 0 and the halvings, or the refusal's number and its two details.
 struct Report {

@@ -16,7 +16,7 @@ pub struct Trial {
 const EXPONENTS: [f64; 13] =
     [0.0, 1.0, -1.0, 13.0, -7.0, 2.5, 0.5, 1e-15, 1e19, -1e19, f64::NAN, f64::INFINITY, f64::NEG_INFINITY];
 
-/// The codes of tasks, and those of the square root and its derivative, which the port runs without a workspace at order 1.
+/// The codes of tasks, and those of the square root and its derivative.
 const ALL: [usize; 10] = [0, 1, 2, 3, 4, 5, 6, 7, 8, 9];
 const ROOTS: [usize; 2] = [2, 8];
 

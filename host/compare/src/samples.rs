@@ -34,7 +34,7 @@ fn order_1() -> Sheet {
     Sheet { order: 1, matrix: vec![4.0], directions: vec![vec![1.0]], exponents: vec![0.5], tasks: tasks(&codes) }
 }
 
-/// Square roots of a number and nothing else, for which the port makes no workspace.
+/// Square roots of a number and nothing else.
 fn roots() -> Sheet {
     let tasks = tasks(&[(2, 0), (8, 0), (8, 1)]);
     Sheet { order: 1, matrix: vec![2.0], directions: vec![vec![1.0], vec![f64::NAN]], exponents: vec![], tasks }

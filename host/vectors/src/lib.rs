@@ -6,6 +6,7 @@ pub mod call;
 pub mod cases;
 pub mod given;
 pub mod norms;
+pub mod planted;
 pub mod questions;
 pub mod random;
 pub mod read;

@@ -1,5 +1,5 @@
 //! `vectors NAME SEED COUNT` prints COUNT calls of one function with their answers, `vectors given NAME` those that are written out, and
-//! `vectors roots` square roots.
+//! `vectors roots` square roots. `vectors planted NAME` and `vectors planted roots` print one line that is wrong in one bit.
 
 use std::env::args;
 use std::io::{BufWriter, Result, Write, stdout};
@@ -8,6 +8,7 @@ use vectors::answer::answer;
 use vectors::call::{FUNCTIONS, Function, Outcome, line};
 use vectors::cases::case;
 use vectors::given::given;
+use vectors::planted::{planted, planted_root};
 use vectors::random::Random;
 use vectors::roots::roots;
 
@@ -52,9 +53,26 @@ fn print_given(function: Function) -> Result<()> {
     out.flush()
 }
 
+fn print_planted(function: Function) -> Result<()> {
+    let (call, outcome) = planted(function);
+    match line(&call, &outcome) {
+        Some(text) => writeln!(stdout(), "{text}"),
+        None => Ok(()),
+    }
+}
+
+fn print_planted_root() -> Result<()> {
+    let (x, root) = planted_root();
+    writeln!(stdout(), "{x:016x} {root:016x}")
+}
+
 fn usage() -> ! {
     let names: Vec<&str> = FUNCTIONS.iter().map(|(_, name)| *name).collect();
-    eprintln!("vectors NAME SEED COUNT\nvectors given NAME\nvectors roots\nNAME: {}", names.join(" "));
+    let forms = ["NAME SEED COUNT", "given NAME", "planted NAME", "planted roots", "roots"];
+    for form in forms {
+        eprintln!("vectors {form}");
+    }
+    eprintln!("NAME: {}", names.join(" "));
     exit(2)
 }
 
@@ -66,6 +84,11 @@ fn main() -> Result<()> {
         ["given", name] => match Function::named(name) {
             Some(function) if function.coded() => print_given(function),
             _ => usage(),
+        },
+        ["planted", "roots"] => print_planted_root(),
+        ["planted", name] => match Function::named(name) {
+            Some(function) => print_planted(function),
+            None => usage(),
         },
         [name, seed, count] => match (Function::named(name), seed.parse(), count.parse()) {
             (Some(function), Ok(seed), Ok(count)) => print_calls(function, seed, count),

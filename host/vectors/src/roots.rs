@@ -3,6 +3,38 @@
 use crate::call::word;
 use crate::random::Random;
 
+/// A number m below 2^k whose square is r modulo 2^k, where r is 1 modulo 8. The others are 2^k - m, and both with the bit k - 1 changed.
+fn root_modulo(r: i128, k: u32) -> i128 {
+    let mut m: i128 = 1;
+    for bit in 3..k {
+        // m² is r modulo 2^bit, and made so modulo the next power.
+        if (m * m - r) >> bit & 1 == 1 {
+            m += 1 << (bit - 1);
+        }
+    }
+    m
+}
+
+/// Numbers whose roots lie next to the middle of two numbers: no root is a middle itself. A middle is m / 2^27 for an odd m from 2^53 to 2^54,
+/// and (m² - r) / 2^54 is a number where m² is r modulo 2^54, or modulo 2^55 from 2^107 on; r above 0 has the root below the middle.
+fn beside_middles() -> Vec<f64> {
+    let mut numbers = Vec::new();
+    for r in [1, 9, 17, 25, 33, 41, -7, -15, -23, -31, -39, -47] {
+        for k in [54, 55] {
+            let m = root_modulo(r, k);
+            let half = 1 << (k - 1);
+            for m in [m, m ^ half, (1 << k) - m, (1 << k) - (m ^ half)] {
+                let square = m * m;
+                let wide = square >> 107 == 1;
+                if 1 << 53 <= m && m < 1 << 54 && wide == (k == 55) {
+                    numbers.push(((square - r) >> 54) as f64);
+                }
+            }
+        }
+    }
+    numbers
+}
+
 pub fn roots() -> Vec<(u64, u64)> {
     let mut numbers = vec![
         0.0,
@@ -40,7 +72,7 @@ pub fn roots() -> Vec<(u64, u64)> {
         let x = whole * whole * 4f64.powi(i * 50 - 500);
         numbers.extend([x.next_down(), x, x.next_up()]);
     }
-    // Squares of 53-bit numbers, rounded, and their neighbours: roots next to the middle of two numbers are among these.
+    // Squares of 53-bit numbers, rounded, and their neighbours.
     for _ in 0..20 {
         let y = f64::from_bits(1023 << 52 | r.bits() >> 12);
         let x = y * y;
@@ -55,5 +87,6 @@ pub fn roots() -> Vec<(u64, u64)> {
     for _ in 0..20 {
         numbers.push(-r.finite().abs());
     }
+    numbers.extend(beside_middles());
     numbers.iter().map(|x| (word(*x), word(x.sqrt()))).collect()
 }

@@ -5,6 +5,7 @@ use vectors::call::{Call, FUNCTIONS, Function, Outcome, Refusal, line};
 use vectors::cases::case;
 use vectors::given::given;
 use vectors::norms::{halvings, near_power_of_two, source_halvings};
+use vectors::planted::{planted, planted_root};
 use vectors::random::Random;
 use vectors::read::read;
 use vectors::roots::roots;
@@ -118,11 +119,30 @@ fn powers_of_zero() {
     assert!(matches!(answer(zero(0.0)), Outcome::Done(done) if done.outputs[0] == [1.0, 0.0, 0.0, 1.0]));
 }
 
-/// A root is the nearest number, by compared squares of whole numbers, as document 01 judges it.
+/// A planted vector has another last bit in one number, and nothing else is wrong in it.
+#[test]
+fn planted_vectors_are_wrong_in_one_bit() {
+    for (function, _) in FUNCTIONS {
+        let (call, outcome) = planted(function);
+        let text = line(&call, &outcome).unwrap();
+        assert_eq!(line(&call, &planted(function).1).unwrap(), text, "the same each time");
+        let right = line(&call, &answer(&call)).unwrap();
+        let parted: Vec<(&str, &str)> = text.split(' ').zip(right.split(' ')).filter(|(x, y)| x != y).collect();
+        assert_eq!(text.len(), right.len());
+        assert_eq!(parted.len(), 1);
+        let [x, y] = [parted[0].0, parted[0].1].map(|x| u64::from_str_radix(x, 16).unwrap());
+        assert_eq!(x ^ y, 1);
+    }
+    let (x, root) = planted_root();
+    assert_eq!(root ^ f64::from_bits(x).sqrt().to_bits(), 1);
+}
+
+/// A root is the nearest number, by compared squares of whole numbers, as document 01 judges it. Some lie next to a middle, on either side.
 #[test]
 fn roots_are_nearest() {
     let pairs = roots();
     assert!(pairs.len() >= 200);
+    let (mut above, mut below) = (0, 0);
     for (x, root) in pairs {
         let (x, root) = (f64::from_bits(x), f64::from_bits(root));
         if x.is_nan() || x <= 0.0 || x.is_infinite() {
@@ -132,8 +152,12 @@ fn roots_are_nearest() {
         // The root is m 2^e and x is k 2^d. The middles beside the root are (2m - 1) 2^(e-1) and (2m + 1) 2^(e-1); x lies between their squares.
         let ((m, e), (k, d)) = (whole(root), whole(x));
         let square = k << (d - 2 * (e - 1));
-        assert!((2 * m - 1).pow(2) <= square && square <= (2 * m + 1).pow(2), "{x:e}");
+        let (lower, upper) = ((2 * m - 1).pow(2), (2 * m + 1).pow(2));
+        assert!(lower <= square && square <= upper, "{x:e}");
+        above += usize::from(square - lower < 48);
+        below += usize::from(upper - square < 48);
     }
+    assert!(above >= 8 && below >= 8, "{above} {below}");
 }
 
 /// A positive number as a whole number times a power of two.

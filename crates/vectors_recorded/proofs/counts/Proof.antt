@@ -12,32 +12,8 @@ Inv-loop s at into₀ next₀ i₀ into next i = (i ≤ length into₀) × (leng
 abbrev μ-loop : tie.MeasureT-loop
 μ-loop s at into₀ next₀ i₀ into next i = length into₀ - i
 
-loop-holds : tie.Need-loop-holds Inv-loop μ-loop
-loop-holds c = search needs
-
-word-requires : tie.Need-word-requires Inv-loop μ-loop
-word-requires c κs = search needs
-
-mul-into : tie.Need-mul-into Inv-loop μ-loop
-mul-into c = search needs
-
-slice-write-into : tie.Need-slice-write-into Inv-loop μ-loop
-slice-write-into c = search needs
-
-add-i : tie.Need-add-i Inv-loop μ-loop
-add-i c = search needs
-
-loop-less : tie.Need-loop-less Inv-loop μ-loop
-loop-less c = search needs
-
 loop-again : tie.Need-loop-again Inv-loop μ-loop
-loop-again c = (search needs, simp length-set (c .before .before .loop .inv .1), search needs)
-
-same-length : tie.Need-same-length Inv-loop μ-loop
-same-length c = search needs
-
-returns : tie.Need-returns Inv-loop μ-loop
-returns c = search needs
+loop-again c = let head : tie.At-loop Inv-loop μ-loop = search in (search needs, simp length-set (head .loop .inv .1), search needs)
 
 pub counts-spec : {M : Type 1} → statement M
 counts-spec =
@@ -45,12 +21,12 @@ counts-spec =
     (tie.spec
     Inv-loop
     μ-loop
-    loop-holds
-    word-requires
-    mul-into
-    slice-write-into
-    add-i
-    loop-less
+    (λ c. search needs)
+    (λ c κs. search needs)
+    (λ c. search needs)
+    (λ c. search needs)
+    (λ c. search needs)
+    (λ c. search needs)
     loop-again
-    same-length
-    returns)
+    (λ c. search needs)
+    (λ c. search needs))

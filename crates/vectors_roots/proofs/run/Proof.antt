@@ -7,37 +7,15 @@ use Rattle.vectors_roots.proofs.run.Statement.{statement}
 use Rattle.vectors_roots.proofs.run.Tie as tie
 
 abbrev Inv-loop : tie.InvT-loop
-Inv-loop text tally₀ at₀ tally at = at ≤ length text
+Inv-loop text tally₀ line₀ at₀ tally line at = at ≤ length text
 
 abbrev μ-loop : tie.MeasureT-loop
-μ-loop text tally₀ at₀ tally at = length text - at
-
-loop-holds : tie.Need-loop-holds Inv-loop μ-loop
-loop-holds c = search needs
-
-word-requires : tie.Need-word-requires Inv-loop μ-loop
-word-requires c κs = search needs
-
-word-requires-2 : tie.Need-word-requires-2 Inv-loop μ-loop
-word-requires-2 c κs = search needs
-
-same-root-requires : tie.Need-same-root-requires Inv-loop μ-loop
-same-root-requires c κs = search needs
-
-with-requires : tie.Need-with-requires Inv-loop μ-loop
-with-requires c κs = search needs
+μ-loop text tally₀ line₀ at₀ tally line at = length text - at
 
 loop-less : tie.Need-loop-less Inv-loop μ-loop
 loop-less c =
-    let first = c .before .before .before in
-    let past = first .word .ensures .past (first .before .loop-test .taken) in
-    omega (arith, past, first .word .ensures .inside, c .before .before .word2 .ensures .from)
-
-loop-again : tie.Need-loop-again Inv-loop μ-loop
-loop-again c = search needs
-
-returns : tie.Need-returns Inv-loop μ-loop
-returns c = search needs
+    let (root, x, turn) : tie.After-word2 Inv-loop μ-loop × tie.After-word Inv-loop μ-loop × tie.In-loop Inv-loop μ-loop = search in
+    omega (arith, x .word .ensures .past (turn .loop-test .taken), x .word .ensures .inside, root .word2 .ensures .from)
 
 pub run-spec : {M : Type 1} → statement M
 run-spec =
@@ -45,11 +23,14 @@ run-spec =
     (tie.spec
     Inv-loop
     μ-loop
-    loop-holds
-    word-requires
-    word-requires-2
-    same-root-requires
-    with-requires
+    (λ c κs. search needs)
+    (λ c. search needs)
+    (λ c κs. search needs)
+    (λ c κs. search needs)
+    (λ c κs. search needs)
+    (λ c κs. search needs)
+    (λ c κs. search needs)
+    (λ c κs. search needs)
     loop-less
-    loop-again
-    returns)
+    (λ c. search needs)
+    (λ c. search needs))

@@ -4,7 +4,7 @@ use native.Mathlib.Nat.{div-le-self}
 use native.Mathlib.Omega.{arith}
 use borrow.Author.Needs.{needs}
 use lib.Dec.{lit≤}
-use lib.Ieee.{binary64}
+use lib.Ieee.{binary64, low, hid}
 use Rattle.arithmetic_floats.proofs.Halves.{half-small, half-cut, cut-le}
 use Rattle.arithmetic_floats.proofs.float.half_up.Statement.{statement}
 use Rattle.arithmetic_floats.proofs.float.half_up.Tie as tie
@@ -13,7 +13,7 @@ add-result : tie.Need-add-result
 add-result c =
     let s : tie.Start = search in
     let b = s .args .bits in
-    omega (arith, div-le-self (b % 2 ^ 52 + 2 ^ 52) (2 ^ (1074 - b / 2 ^ 52)))
+    omega (arith, div-le-self (b % hid binary64 + hid binary64) (2 ^ (low binary64 - b / hid binary64)))
 
 returns : tie.Need-returns
 returns c =

@@ -1,14 +1,16 @@
 -- `halvings_of` meets its contract, by the facts of `Least`. Assumes nothing.
-use mathlib.Core.Path.{sym, ap, _∙_, subst}
+use mathlib.Core.Path.{_≡_, sym, ap, _∙_, subst}
+use Prim.Native.Nat.{ℕ}
 use mathlib.Core.Bool.{not}
 use native.Mathlib.Omega.{arith}
 use borrow.Author.Needs.{needs}
 use lib.Dec.{T}
 use lib.Ieee.{Float, binary64, fits, isNan, le, ofBits}
 use lib.Ieee.Bits.{toBits-lt}
-use Rattle.arithmetic_floats.specs.Float.{halvings, one}
+use lib.Ieee.Positive.{num, den}
+use Rattle.arithmetic_floats.specs.Float.{halvings, Least, one}
 use Rattle.arithmetic_floats.proofs.Signs.{plain-magnitude}
-use Rattle.arithmetic_floats.proofs.Least.{Plain, none-above, exponent-ge, at-power, past-power, halvings-magnitude}
+use Rattle.arithmetic_floats.proofs.Least.{Plain, none-above, exponent-ge, at-power, past-power, halvings-magnitude, halvings-least}
 use Rattle.arithmetic_floats.proofs.float.halvings_of.Statement.{statement}
 use Rattle.arithmetic_floats.proofs.float.halvings_of.Tie as tie
 
@@ -44,20 +46,24 @@ sub-exponent c =
 add-result : tie.Need-add-result
 add-result c = let at-magnitude : tie.After-magnitude = search in omega (arith, toBits-lt binary64 (at-magnitude .magnitude .result) (held at-magnitude))
 
+-- both clauses, from the value
+both : (x : Float) (r : ℕ) → r ≡ halvings x → (r ≡ halvings x) × Least (num x) (den x) r
+both x r e = (e, subst (Least (num x) (den x)) (sym e) (halvings-least x))
+
 returns : tie.Need-returns
 returns c =
     let (taken1, at-magnitude, s) : tie.Then1 × tie.After-magnitude × tie.Start = search in
-    none-above binary64 (at-magnitude .magnitude .result) (plain at-magnitude) (held at-magnitude) (under taken1) ∙ ap halvings (at-magnitude .magnitude .ensures) ∙ halvings-magnitude (s .args .norm)
+    both (s .args .norm) _ (none-above binary64 (at-magnitude .magnitude .result) (plain at-magnitude) (held at-magnitude) (under taken1) ∙ ap halvings (at-magnitude .magnitude .ensures) ∙ halvings-magnitude (s .args .norm))
 
 returns-2 : tie.Need-returns-2
 returns-2 c =
     let (taken2, left1, at-magnitude, s) : tie.Then2 × tie.Else1 × tie.After-magnitude × tie.Start = search in
-    at-power binary64 (at-magnitude .magnitude .result) (plain at-magnitude) (held at-magnitude) (over left1) (taken2 .if2 .taken) ∙ ap halvings (at-magnitude .magnitude .ensures) ∙ halvings-magnitude (s .args .norm)
+    both (s .args .norm) _ (at-power binary64 (at-magnitude .magnitude .result) (plain at-magnitude) (held at-magnitude) (over left1) (taken2 .if2 .taken) ∙ ap halvings (at-magnitude .magnitude .ensures) ∙ halvings-magnitude (s .args .norm))
 
 returns-3 : tie.Need-returns-3
 returns-3 c =
     let (left2, left1, at-magnitude, s) : tie.Else2 × tie.Else1 × tie.After-magnitude × tie.Start = search in
-    past-power binary64 (at-magnitude .magnitude .result) (plain at-magnitude) (held at-magnitude) (over left1) (left2 .if2 .left) ∙ ap halvings (at-magnitude .magnitude .ensures) ∙ halvings-magnitude (s .args .norm)
+    both (s .args .norm) _ (past-power binary64 (at-magnitude .magnitude .result) (plain at-magnitude) (held at-magnitude) (over left1) (left2 .if2 .left) ∙ ap halvings (at-magnitude .magnitude .ensures) ∙ halvings-magnitude (s .args .norm))
 
 pub halvings-of-spec : {M : Type 1} → statement M
 halvings-of-spec =

@@ -1,11 +1,11 @@
 -- `round` meets its contract, by the facts of `Whole`. Assumes nothing.
 use mathlib.Core.Path.{_≡_, sym, ap, _∙_, subst}
 use mathlib.Core.Bool.{not, false}
-use Prim.Native.Nat.{ℕ, _*_, _^_, _≤_, _<_}
+use Prim.Native.Nat.{ℕ, _+_, _*_, _^_, _≤_, _<_}
 use native.Mathlib.Nat.{le-trans}
 use borrow.Author.Needs.{needs}
 use lib.Dec.{T, lit≤, le→leb}
-use lib.Ieee.{Float, binary64, fits, isNan, inFloat, ofInt, toBits, neg, round}
+use lib.Ieee.{Float, binary64, low, hid, fits, isNan, inFloat, ofInt, toBits, neg, round}
 use lib.Ieee.Bits.{ofBits-toBits}
 use lib.Ieee.Compare.{differs-from-itself}
 use Rattle.arithmetic_floats.specs.Float.{magnitude, halfUp, roundAway}
@@ -34,10 +34,10 @@ half c =
 -- the bits that the test looks at are the magnitude's
 small : (c : tie.Then2) →
     let s : tie.Start = search in
-    toBits binary64 (magnitude (s .args .x)) < 1075 * 2 ^ 52
+    toBits binary64 (magnitude (s .args .x)) < (low binary64 + 1) * hid binary64
 small c =
     let at-magnitude : tie.After-magnitude = search in
-    subst (λ (v : Float). toBits binary64 v < 1075 * 2 ^ 52) (at-magnitude .magnitude .ensures) (c .if2 .taken)
+    subst (λ (v : Float). toBits binary64 v < (low binary64 + 1) * hid binary64) (at-magnitude .magnitude .ensures) (c .if2 .taken)
 
 float-to-bits-size : tie.Need-float-to-bits-size
 float-to-bits-size c =
@@ -76,7 +76,7 @@ returns-3 c =
 returns-4 : tie.Need-returns-4
 returns-4 c =
     let (left2, at-magnitude, left1, s) : tie.Else2 × tie.After-magnitude × tie.Else1 × tie.Start = search in
-    round-large binary64 (s .args .x) (held s) (number left1) (subst (λ (v : Float). 1075 * 2 ^ 52 ≤ toBits binary64 v) (at-magnitude .magnitude .ensures) (left2 .if2 .left))
+    round-large binary64 (s .args .x) (held s) (number left1) (subst (λ (v : Float). (low binary64 + 1) * hid binary64 ≤ toBits binary64 v) (at-magnitude .magnitude .ensures) (left2 .if2 .left))
 
 pub round-spec : {M : Type 1} → statement M
 round-spec =

@@ -1,10 +1,13 @@
--- `sqrt` meets its contract, by the facts of `Cases`. Assumes nothing.
-use mathlib.Core.Path.{sym, _∙_, subst}
+-- `sqrt` meets its contract, by the facts of `Cases` and `Closest`. Assumes nothing.
+use mathlib.Core.Path.{_≡_, sym, _∙_, subst}
 use native.Mathlib.Omega.{arith}
 use borrow.Author.Needs.{needs}
 use lib.Dec.{T}
-use lib.Ieee.{binary64, fits, ofBits, div, lt}
+use lib.Ieee.{Float, binary64, fits, ofBits, div, lt}
+use lib.Ieee.Positive.{positive}
 use Rattle.arithmetic_floats.specs.Float.{+zero}
+use Rattle.arithmetic_floats.specs.Root.{sqrtOf, NearestRoot}
+use Rattle.arithmetic_floats.proofs.Closest.{sqrt-nearest}
 use Rattle.arithmetic_floats.proofs.Cases.{above-no-nan, low-no-nan, digits-pos, sqrt-low, sqrt-mid, sqrt-top, sqrt-zero, sqrt-below}
 use Rattle.arithmetic_floats.proofs.root.sqrt.Statement.{statement}
 use Rattle.arithmetic_floats.proofs.root.sqrt.Tie as tie
@@ -41,31 +44,35 @@ float-from-bits-result-2 c =
     let root-bits2 : tie.After-root-bits2 = search in
     low-no-nan binary64 (root-bits2 .root-bits2 .result) (root-bits2 .root-bits2 .ensures .1)
 
+-- both clauses, from the value
+both : (s : tie.Start) (r : Float) → r ≡ sqrtOf binary64 (s .args .x) → (r ≡ sqrtOf binary64 (s .args .x)) × (T (positive (s .args .x)) → NearestRoot binary64 (s .args .x) r)
+both s r e = (e, λ p. subst (NearestRoot binary64 (s .args .x)) (sym e) (sqrt-nearest binary64 (s .args .x) (held s) p))
+
 returns : tie.Need-returns
 returns c =
     let (root-bits, taken2, taken1, s) : tie.After-root-bits × tie.Then2 × tie.Then1 × tie.Start = search in
-    root-bits .root-bits .ensures .0 ∙ sym (sqrt-low binary64 (s .args .x) (held s) (above taken1) (taken2 .if2 .taken))
+    both s _ (root-bits .root-bits .ensures .0 ∙ sym (sqrt-low binary64 (s .args .x) (held s) (above taken1) (taken2 .if2 .taken)))
 
 returns-2 : tie.Need-returns-2
 returns-2 c =
     let (root-bits2, taken3, taken1, s) : tie.After-root-bits2 × tie.Then3 × tie.Then1 × tie.Start = search in
-    root-bits2 .root-bits2 .ensures .0 ∙ sym (sqrt-mid binary64 (s .args .x) (held s) (above taken1) (omega arith) (taken3 .if3 .taken))
+    both s _ (root-bits2 .root-bits2 .ensures .0 ∙ sym (sqrt-mid binary64 (s .args .x) (held s) (above taken1) (omega arith) (taken3 .if3 .taken)))
 
 returns-3 : tie.Need-returns-3
-returns-3 c = let (left3, taken1, s) : tie.Else3 × tie.Then1 × tie.Start = search in sqrt-top binary64 (s .args .x) (held s) (above taken1) (left3 .if3 .left)
+returns-3 c = let (left3, taken1, s) : tie.Else3 × tie.Then1 × tie.Start = search in both s _ (sqrt-top binary64 (s .args .x) (held s) (above taken1) (left3 .if3 .left))
 
 returns-4 : tie.Need-returns-4
 unfolding ofBits
 returns-4 c =
     let taken4 : tie.Then4 = search in
     let s : tie.Start = search in
-    sqrt-zero binary64 (s .args .x) (subst T (sym (taken4 .if4 .taken)) tt)
+    both s _ (sqrt-zero binary64 (s .args .x) (subst T (sym (taken4 .if4 .taken)) tt))
 
 returns-5 : tie.Need-returns-5
 unfolding ofBits div
 returns-5 c =
     let (left4, left1, s) : tie.Else4 × tie.Else1 × tie.Start = search in
-    sym (sqrt-below binary64 (s .args .x) (λ t. subst T (left1 .if1 .left) t) (λ t. subst T (left4 .if4 .left) t))
+    both s _ (sym (sqrt-below binary64 (s .args .x) (λ t. subst T (left1 .if1 .left) t) (λ t. subst T (left4 .if4 .left) t)))
 
 pub sqrt-spec : {M : Type 1} → statement M
 sqrt-spec =

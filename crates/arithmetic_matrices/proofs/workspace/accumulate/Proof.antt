@@ -8,13 +8,13 @@ use Rattle.arithmetic_matrices.specs.Matrix.{tab, item, put}
 use Rattle.arithmetic_matrices.specs.Workspace.{slot, store}
 use Rattle.arithmetic_matrices.proofs.MatrixLaws.{square-le}
 use Rattle.arithmetic_matrices.proofs.PartLaws.{put-none, put-zip-more}
-use Rattle.arithmetic_matrices.proofs.ProductLaws.{accumulateM-parts}
+use Rattle.arithmetic_matrices.proofs.ProductLaws.{product-comm, addMultipleM-parts}
 use Rattle.arithmetic_matrices.proofs.Slots.{slots-apart}
 use Rattle.arithmetic_matrices.proofs.workspace.accumulate.Statement.{statement}
 use Rattle.arithmetic_matrices.proofs.workspace.accumulate.Tie as tie
 
 abbrev Inv-loop : tie.InvT-loop
-Inv-loop w₀ c p by n x y m k₀ w k = (m ≤ 256) × (k ≤ m) × (length w ≡ length w₀) × (w ≡ put w₀ y (tab k (λ i. add binary64 (item w₀ (y + i)) (mul binary64 by (item w₀ (x + i))))))
+Inv-loop w₀ c p by n x y m k₀ w k = (m ≤ 256) × (k ≤ m) × (length w ≡ length w₀) × (w ≡ put w₀ y (tab k (λ i. add binary64 (item w₀ (y + i)) (mul binary64 (item w₀ (x + i)) by))))
 
 abbrev μ-loop : tie.MeasureT-loop
 μ-loop w₀ c p by n x y m k₀ w k = m - k
@@ -31,7 +31,7 @@ loop-again c =
     let l = head .loop in
     let a = s .args in
     let apart = slots-apart (a .p) (a .c) (a .n * a .n) (a .n * a .n) (s .pre .1 .2) (l .inv .0) (l .inv .0) in
-    (l .inv .0, omega arith, simp length-set (l .inv .2), rw (l .inv .3) (put-zip-more _ _ _ _ _ (λ (u v : Float). add binary64 u (mul binary64 (a .by) v)) apart (turn .loop-test .taken)))
+    (l .inv .0, omega arith, simp length-set (l .inv .2), rw (product-comm binary64 (a .by), l .inv .3) (put-zip-more _ _ _ _ _ (λ (u v : Float). add binary64 u (mul binary64 v (a .by))) apart (turn .loop-test .taken)))
 
 returns : tie.Need-returns Inv-loop μ-loop
 unfolding slot store
@@ -40,7 +40,7 @@ returns c =
     let s : tie.Start Inv-loop μ-loop = search in
     let a = s .args in
     let e : head .loop .k ≡ a .n * a .n = omega arith in
-    rw (accumulateM-parts binary64 (a .n) (a .by) (a .w .now) (256 * a .p) (256 * a .c)) (rw e at (head .loop .inv .3))
+    rw (addMultipleM-parts binary64 (a .n) (a .by) (a .w .now) (256 * a .p) (256 * a .c)) (rw e at (head .loop .inv .3))
 
 pub accumulate-spec : {M : Type 1} → statement M
 accumulate-spec =

@@ -8,7 +8,7 @@ use Rattle.arithmetic_matrices.specs.Matrix.{tab, put}
 use Rattle.arithmetic_matrices.specs.Workspace.{slot, store}
 use Rattle.arithmetic_matrices.proofs.MatrixLaws.{square-le}
 use Rattle.arithmetic_matrices.proofs.PartLaws.{put-none, put-map-more}
-use Rattle.arithmetic_matrices.proofs.ProductLaws.{scaleM-part}
+use Rattle.arithmetic_matrices.proofs.ProductLaws.{timesM-part}
 use Rattle.arithmetic_matrices.proofs.workspace.scale.Statement.{statement}
 use Rattle.arithmetic_matrices.proofs.workspace.scale.Tie as tie
 
@@ -38,7 +38,7 @@ returns c =
     let s : tie.Start Inv-loop μ-loop = search in
     let a = s .args in
     let e : head .loop .k ≡ a .n * a .n = omega arith in
-    rw (scaleM-part binary64 (a .n) (a .by) (a .w .now) (256 * a .a)) (rw e at (head .loop .inv .3))
+    rw (timesM-part binary64 (a .n) (a .by) (a .w .now) (256 * a .a)) (rw e at (head .loop .inv .3))
 
 pub scale-spec : {M : Type 1} → statement M
 scale-spec =

@@ -1,20 +1,20 @@
 -- `times` meets its contract. The invariant: the first k entries are written, and nothing else is changed. Assumes nothing.
 use Prim.Native.Nat.{_+_, _-_, _*_, _≤_}
 use native.Mathlib.Omega.{arith}
-use mathlib.Core.Path.{_≡_, refl, ap}
+use mathlib.Core.Path.{_≡_, refl, ap, _∙_}
 use lib.ListN.{length, length-set}
-use lib.Ieee.{binary64, mul}
+use lib.Ieee.{Float, binary64, mul}
 use Rattle.arithmetic_matrices.specs.Matrix.{tab, item, put}
 use Rattle.arithmetic_matrices.specs.Workspace.{slot, store}
 use Rattle.arithmetic_matrices.proofs.MatrixLaws.{square-le}
 use Rattle.arithmetic_matrices.proofs.PartLaws.{put-none, put-store, read-apart}
-use Rattle.arithmetic_matrices.proofs.ProductLaws.{timesM-part}
+use Rattle.arithmetic_matrices.proofs.ProductLaws.{product-comm, timesM-part}
 use Rattle.arithmetic_matrices.proofs.Slots.{slots-apart}
 use Rattle.arithmetic_matrices.proofs.workspace.times.Statement.{statement}
 use Rattle.arithmetic_matrices.proofs.workspace.times.Tie as tie
 
 abbrev Inv-loop : tie.InvT-loop
-Inv-loop w₀ a c by n x y m k₀ w k = (m ≤ 256) × (k ≤ m) × (length w ≡ length w₀) × (w ≡ put w₀ y (tab k (λ i. mul binary64 by (item w₀ (x + i)))))
+Inv-loop w₀ a c by n x y m k₀ w k = (m ≤ 256) × (k ≤ m) × (length w ≡ length w₀) × (w ≡ put w₀ y (tab k (λ i. mul binary64 (item w₀ (x + i)) by)))
 
 abbrev μ-loop : tie.MeasureT-loop
 μ-loop w₀ a c by n x y m k₀ w k = m - k
@@ -31,7 +31,7 @@ loop-again c =
     let l = head .loop in
     let a = s .args in
     let apart = slots-apart (a .a) (a .c) (a .n * a .n) (a .n * a .n) (s .pre .1 .2) (l .inv .0) (l .inv .0) in
-    (l .inv .0, omega arith, simp length-set (l .inv .2), rw (l .inv .3) (put-store _ _ _ _ _ (ap (mul binary64 (a .by)) (read-apart _ _ _ _ _ _ apart (turn .loop-test .taken)))))
+    (l .inv .0, omega arith, simp length-set (l .inv .2), rw (l .inv .3) (put-store _ _ _ _ _ (product-comm binary64 (a .by) _ ∙ ap (λ (v : Float). mul binary64 v (a .by)) (read-apart _ _ _ _ _ _ apart (turn .loop-test .taken)))))
 
 returns : tie.Need-returns Inv-loop μ-loop
 unfolding slot store

@@ -2,8 +2,7 @@
 use borrow.Author.Needs.{needs}
 use native.Mathlib.Omega.{arith}
 use denote.Ref.{now}
-use mathlib.Core.Bool.{false}
-use Rattle.arithmetic_questions.specs.Questions.{anywhere}
+use Rattle.arithmetic_questions.specs.Questions.{anywhere, everyOrder}
 use Rattle.arithmetic_questions.proofs.QuestionLaws.{told, single, joined, stops, goes-on, all-yes, small-square, small-direction, shape-directed}
 use Rattle.arithmetic_questions.proofs.question.ask_direction_shape.Statement.{statement}
 use Rattle.arithmetic_questions.proofs.question.ask_direction_shape.Tie as tie
@@ -13,7 +12,7 @@ returns c =
     let (told2, ask, s) : tie.After-enum-told2 × tie.After-ask-direction-order × tie.Start = search in
     let a = s .args in
     let order = ask .ask-direction-order in
-    rw (shape-directed anywhere false (a .rows) (a .columns) (now (a .a)) (a .height) (a .width) (now (a .e)) (a .first) (a .second) (a .room))
+    rw (shape-directed anywhere everyOrder (a .rows) (a .columns) (now (a .a)) (a .height) (a .width) (now (a .e)) (a .first) (a .second) (a .room))
     (stops _ (told (order .result) (order .ensures)) (told2 .enum-told2 .given .1) .asks)
 
 mul-ask-length : tie.Need-mul-ask-length
@@ -46,7 +45,7 @@ returns-2 c =
     let companion = ask-length2 .ask-length2 in
     let inputs = first-no .first-no in
     let outputs = ask-lengths .ask-lengths in
-    rw (shape-directed anywhere false (a .rows) (a .columns) (now (a .a)) (a .height) (a .width) (now (a .e)) (a .first) (a .second) (a .room))
+    rw (shape-directed anywhere everyOrder (a .rows) (a .columns) (now (a .a)) (a .height) (a .width) (now (a .e)) (a .first) (a .second) (a .room))
     (goes-on (told (order .result) (order .ensures)) (enum-told .enum-told .given .1)
     (joined (first-no2 .first-no2 .result)
     (joined (inputs .result) (single (matrix .result) (matrix .ensures)) (single (companion .result) (companion .ensures)) (inputs .ensures))

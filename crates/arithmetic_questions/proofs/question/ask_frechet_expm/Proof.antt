@@ -1,10 +1,9 @@
 -- `ask_frechet_expm` meets its contract. Assumes nothing.
 use borrow.Author.Needs.{needs}
 use mathlib.Core.Path.{sym, _∙_}
-use mathlib.Core.Bool.{false}
 use mathlib.Core.List.{[], _∷_}
 use denote.Ref.{now}
-use Rattle.arithmetic_questions.specs.Questions.{Call, binary, anywhere, ofFrechetExpm}
+use Rattle.arithmetic_questions.specs.Questions.{Call, binary, ofFrechetExpm, direction, withoutExponent, anywhere, everyOrder}
 use Rattle.arithmetic_questions.proofs.QuestionLaws.{told, single, joined, all-yes, beside-shape, directed-shape, shape-no, shape-passed, numbers-directed}
 use Rattle.arithmetic_questions.proofs.question.ask_frechet_expm.Statement.{statement}
 use Rattle.arithmetic_questions.proofs.question.ask_frechet_expm.Tie as tie
@@ -22,7 +21,7 @@ ask-entries-requires c κs =
     let (enum-told, ask, s) : tie.After-enum-told × tie.After-ask-direction-shape × tie.Start = search in
     let a = s .args in
     let shape = ask .ask-direction-shape in
-    beside-shape false anywhere false (binary (a .rows) (a .columns) (now (a .a)) (a .height) (a .width) (now (a .e)) (a .first ∷ a .second ∷ []) (a .room))
+    beside-shape withoutExponent anywhere everyOrder (binary (a .rows) (a .columns) (now (a .a)) (a .height) (a .width) (now (a .e)) (a .first ∷ a .second ∷ []) (a .room))
     (all-yes (told (shape .result) (shape .ensures)) (enum-told .enum-told .given .1)) .lies
 
 ask-direction-requires : tie.Need-ask-direction-requires
@@ -30,7 +29,7 @@ ask-direction-requires c κs =
     let (enum-told, ask, s) : tie.After-enum-told × tie.After-ask-direction-shape × tie.Start = search in
     let a = s .args in
     let shape = ask .ask-direction-shape in
-    directed-shape false anywhere false (binary (a .rows) (a .columns) (now (a .a)) (a .height) (a .width) (now (a .e)) (a .first ∷ a .second ∷ []) (a .room))
+    directed-shape withoutExponent anywhere everyOrder (binary (a .rows) (a .columns) (now (a .a)) (a .height) (a .width) (now (a .e)) (a .first ∷ a .second ∷ []) (a .room))
     (all-yes (told (shape .result) (shape .ensures)) (enum-told .enum-told .given .1)) .lies
 
 returns-2 : tie.Need-returns-2

@@ -1,10 +1,9 @@
 -- `ask_matrix` meets its contract. Assumes nothing.
 use borrow.Author.Needs.{needs}
 use mathlib.Core.Path.{sym, _∙_}
-use mathlib.Core.Bool.{false}
 use mathlib.Core.List.{[], _∷_}
 use denote.Ref.{now}
-use Rattle.arithmetic_questions.specs.Questions.{Call, unary, anywhere, ofCondExpm}
+use Rattle.arithmetic_questions.specs.Questions.{Call, unary, ofCondExpm, withoutExponent, anywhere, everyOrder}
 use Rattle.arithmetic_questions.proofs.QuestionLaws.{told, single, all-yes, alone-shape, shape-no, shape-passed, numbers-alone}
 use Rattle.arithmetic_questions.proofs.question.ask_matrix.Statement.{statement}
 use Rattle.arithmetic_questions.proofs.question.ask_matrix.Tie as tie
@@ -21,7 +20,7 @@ ask-entries-requires c κs =
     let (enum-told, ask-shape, s) : tie.After-enum-told × tie.After-ask-shape × tie.Start = search in
     let a = s .args in
     let shape = ask-shape .ask-shape in
-    alone-shape false anywhere false (unary (a .rows) (a .columns) (now (a .a)) (a .out ∷ []) (a .room)) (all-yes (told (shape .result) (shape .ensures)) (enum-told .enum-told .given .1)) .lies
+    alone-shape withoutExponent anywhere everyOrder (unary (a .rows) (a .columns) (now (a .a)) (a .out ∷ []) (a .room)) (all-yes (told (shape .result) (shape .ensures)) (enum-told .enum-told .given .1)) .lies
 
 returns-2 : tie.Need-returns-2
 returns-2 c =

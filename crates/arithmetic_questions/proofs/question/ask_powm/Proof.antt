@@ -1,10 +1,9 @@
 -- `ask_powm` meets its contract. Assumes nothing.
 use borrow.Author.Needs.{needs}
-use mathlib.Core.Bool.{true}
 use mathlib.Core.List.{[], _∷_}
 use denote.Ref.{now}
 use Rattle.arithmetic_questions.specs.Result.{_>>=_, firstNo}
-use Rattle.arithmetic_questions.specs.Questions.{powered, asked, alone, anywhere}
+use Rattle.arithmetic_questions.specs.Questions.{powered, asked, withoutCompanion, withExponent, anywhere, ordersFromTwo}
 use Rattle.arithmetic_questions.proofs.QuestionLaws.{single, rest-no, rest-asked, joined}
 use Rattle.arithmetic_questions.proofs.question.ask_powm.Statement.{statement}
 use Rattle.arithmetic_questions.proofs.question.ask_powm.Tie as tie
@@ -15,7 +14,7 @@ returns c =
     let (told2, ask-matrix, s) : tie.After-enum-told2 × tie.After-ask-matrix × tie.Start = search in
     let a = s .args in
     let matrix = ask-matrix .ask-matrix in
-    rest-no alone true anywhere true (powered (a .rows) (a .columns) (now (a .a)) (a .p) (a .out ∷ []) (a .room)) (matrix .result) (matrix .ensures) (told2 .enum-told2 .given .1)
+    rest-no withoutCompanion withExponent anywhere ordersFromTwo (powered (a .rows) (a .columns) (now (a .a)) (a .p) (a .out ∷ []) (a .room)) (matrix .result) (matrix .ensures) (told2 .enum-told2 .given .1)
 
 returns-2 : tie.Need-returns-2
 unfolding firstNo _>>=_ asked
@@ -26,7 +25,7 @@ returns-2 c =
     let matrix = ask-matrix .ask-matrix in
     let exponent = ask-exponent .ask-exponent in
     let two = ask-from-two .ask-from-two in
-    rest-asked alone true anywhere true (powered (a .rows) (a .columns) (now (a .a)) (a .p) (a .out ∷ []) (a .room)) (matrix .result) (first-no .first-no .result) (matrix .ensures)
+    rest-asked withoutCompanion withExponent anywhere ordersFromTwo (powered (a .rows) (a .columns) (now (a .a)) (a .p) (a .out ∷ []) (a .room)) (matrix .result) (matrix .ensures) (first-no .first-no .result)
     (told .enum-told .given .1)
     (joined (first-no .first-no .result) (single (exponent .result) (exponent .ensures)) (single (two .result) (two .ensures)) (first-no .first-no .ensures) .asks)
 

@@ -2,9 +2,8 @@
 use borrow.Author.Needs.{needs}
 use native.Mathlib.Omega.{arith}
 use denote.Ref.{now}
-use mathlib.Core.Bool.{false}
 use Rattle.arithmetic_floats.specs.Float.{+zero}
-use Rattle.arithmetic_questions.specs.Questions.{anywhere}
+use Rattle.arithmetic_questions.specs.Questions.{withoutExponent, anywhere, everyOrder}
 use Rattle.arithmetic_questions.proofs.QuestionLaws.{told, stops, goes-on, all-yes, small-square, shape-alone}
 use Rattle.arithmetic_questions.proofs.question.ask_shape.Statement.{statement}
 use Rattle.arithmetic_questions.proofs.question.ask_shape.Tie as tie
@@ -14,7 +13,7 @@ returns c =
     let (told2, ask, s) : tie.After-enum-told2 × tie.After-ask-matrix-order × tie.Start = search in
     let a = s .args in
     let order = ask .ask-matrix-order in
-    rw (shape-alone false anywhere false (a .rows) (a .columns) (now (a .a)) +zero (a .out) (a .room))
+    rw (shape-alone anywhere everyOrder (a .rows) (a .columns) (now (a .a)) withoutExponent +zero (a .out) (a .room))
     (stops _ (told (order .result) (order .ensures)) (told2 .enum-told2 .given .1) .asks)
 
 mul-ask-lengths : tie.Need-mul-ask-lengths
@@ -31,7 +30,7 @@ returns-2 c =
     let a = s .args in
     let order = ask .ask-matrix-order in
     let lengths = ask-lengths .ask-lengths in
-    rw (shape-alone false anywhere false (a .rows) (a .columns) (now (a .a)) +zero (a .out) (a .room))
+    rw (shape-alone anywhere everyOrder (a .rows) (a .columns) (now (a .a)) withoutExponent +zero (a .out) (a .room))
     (goes-on (told (order .result) (order .ensures)) (enum-told .enum-told .given .1) (told (lengths .result) (lengths .ensures)) .asks)
 
 pub ask-shape-spec : {M : Type 1} → statement M

@@ -1,10 +1,9 @@
 -- `ask_sqrtm` meets its contract. Assumes nothing.
 use borrow.Author.Needs.{needs}
-use mathlib.Core.Bool.{false}
 use mathlib.Core.List.{[], _∷_}
 use denote.Ref.{now}
 use Rattle.arithmetic_questions.specs.Result.{_>>=_, firstNo}
-use Rattle.arithmetic_questions.specs.Questions.{unary, anywhere, alone, nonnegative}
+use Rattle.arithmetic_questions.specs.Questions.{unary, withoutCompanion, withoutExponent, anywhere, nonnegative, everyOrder}
 use Rattle.arithmetic_questions.proofs.QuestionLaws.{single, rest-no, rest-asked, accepted}
 use Rattle.arithmetic_questions.proofs.question.ask_sqrtm.Statement.{statement}
 use Rattle.arithmetic_questions.proofs.question.ask_sqrtm.Tie as tie
@@ -14,14 +13,14 @@ returns c =
     let (told2, ask-matrix, s) : tie.After-enum-told2 × tie.After-ask-matrix × tie.Start = search in
     let a = s .args in
     let matrix = ask-matrix .ask-matrix in
-    rest-no alone false nonnegative false (unary (a .rows) (a .columns) (now (a .a)) (a .out ∷ []) (a .room)) (matrix .result) (matrix .ensures) (told2 .enum-told2 .given .1)
+    rest-no withoutCompanion withoutExponent nonnegative everyOrder (unary (a .rows) (a .columns) (now (a .a)) (a .out ∷ []) (a .room)) (matrix .result) (matrix .ensures) (told2 .enum-told2 .given .1)
 
 ask-nonnegative-requires : tie.Need-ask-nonnegative-requires
 ask-nonnegative-requires c κs =
     let (told, ask-matrix, s) : tie.After-enum-told × tie.After-ask-matrix × tie.Start = search in
     let a = s .args in
     let matrix = ask-matrix .ask-matrix in
-    accepted false anywhere false (unary (a .rows) (a .columns) (now (a .a)) (a .out ∷ []) (a .room)) (matrix .result) (matrix .ensures) (told .enum-told .given .1) .shape .some
+    accepted withoutExponent anywhere everyOrder (unary (a .rows) (a .columns) (now (a .a)) (a .out ∷ []) (a .room)) (matrix .result) (matrix .ensures) (told .enum-told .given .1) .shape .some
 
 returns-2 : tie.Need-returns-2
 unfolding firstNo _>>=_
@@ -29,7 +28,7 @@ returns-2 c =
     let (ask-nonnegative, told, ask-matrix, s) : tie.After-ask-nonnegative × tie.After-enum-told × tie.After-ask-matrix × tie.Start = search in
     let a = s .args in
     let matrix = ask-matrix .ask-matrix in
-    rest-asked alone false nonnegative false (unary (a .rows) (a .columns) (now (a .a)) (a .out ∷ []) (a .room)) (matrix .result) (ask-nonnegative .ask-nonnegative .result) (matrix .ensures) (told .enum-told .given .1)
+    rest-asked withoutCompanion withoutExponent nonnegative everyOrder (unary (a .rows) (a .columns) (now (a .a)) (a .out ∷ []) (a .room)) (matrix .result) (matrix .ensures) (ask-nonnegative .ask-nonnegative .result) (told .enum-told .given .1)
     (single (ask-nonnegative .ask-nonnegative .result) (ask-nonnegative .ask-nonnegative .ensures) .asks)
 
 pub ask-sqrtm-spec : {M : Type 1} → statement M

@@ -21,8 +21,8 @@ returns c =
     let x′ = f .last .1 .1 .1 .0 in
     let d′ = f .last .1 .1 .1 .1 .0 in
     let w2 = f .last .1 .1 .1 .1 .1 .0 in (
-      condition-steps binary64 n few (now (a .a)) (now (a .w)) (u .last .0) w2 (u .last .1 .1 .0) (now (a .x)) x′ (now (a .d)) d′ (f .result) (k .result .outcome) (k .result .ratio) (k .result .derivative) (k .result .exponential) (u .ensures .1) (u .ensures .0) (f .ensures) (k .ensures),
-      condition-only binary64 n few (now (a .a)) (now (a .w)) (u .last .0) w2 (u .last .1 .1 .0) (now (a .x)) x′ (now (a .d)) d′ (f .result) (k .result .outcome) (k .result .ratio) (k .result .derivative) (k .result .exponential) (u .ensures .1) (u .ensures .0) (f .ensures),
+      condition-steps binary64 n few (now (a .a)) (now (a .w)) (u .last .0) w2 (u .last .1 .1 .0) (now (a .x)) x′ (now (a .d)) d′ (f .result) (u .ensures .1) (u .ensures .0) (f .ensures) (k .result .outcome) _ (k .ensures),
+      condition-only binary64 n few (now (a .a)) (now (a .w)) (u .last .0) w2 (u .last .1 .1 .0) (now (a .x)) x′ (now (a .d)) d′ (f .result) (u .ensures .1) (u .ensures .0) (f .ensures),
     )
 
 pub cond-expm-in-spec : {M : Type 1} → statement M

@@ -1,12 +1,11 @@
 -- `cond_expm_with` meets its contract. Assumes nothing.
 use mathlib.Core.Path.{sym}
-use mathlib.Core.Bool.{false}
 use mathlib.Core.List.{[]}
 use native.Mathlib.Omega.{arith}
 use denote.Ref.{now}
 use lib.ListN.{length}
 use lib.Ieee.{binary64}
-use Rattle.arithmetic_questions.specs.Questions.{unary, anywhere, ofCondExpm}
+use Rattle.arithmetic_questions.specs.Questions.{unary, withoutExponent, anywhere, everyOrder, ofCondExpm}
 use Rattle.arithmetic_questions.proofs.QuestionLaws.{accepted}
 use Rattle.arithmetic_questions.proofs.AnswerLaws.{workspace-no}
 use Rattle.arithmetic_questions.proofs.OutputLaws.{kept-where}
@@ -24,7 +23,7 @@ cond-expm-with-room-requires c κs =
     let a = start .args in
     let asked = ask-cond-expm .ask-cond-expm in
     let call = unary (a .rows) (a .columns) (now (a .a)) [] (length (now (a .w))) in
-    let s = accepted false anywhere false call (asked .result) (asked .ensures) (told .enum-told .given .1) .shape in
+    let s = accepted withoutExponent anywhere everyOrder call (asked .result) (asked .ensures) (told .enum-told .given .1) .shape in
     (record { order = omega (arith, s .small); space = s .room }, (s .small, s .long))
 
 clear-where-requires : tie.Need-clear-where-requires
@@ -33,7 +32,7 @@ clear-where-requires c κs =
     let a = start .args in
     let asked = ask-cond-expm .ask-cond-expm in
     let call = unary (a .rows) (a .columns) (now (a .a)) [] (length (now (a .w))) in
-    let s = accepted false anywhere false call (asked .result) (asked .ensures) (told .enum-told .given .1) .shape in
+    let s = accepted withoutExponent anywhere everyOrder call (asked .result) (asked .ensures) (told .enum-told .given .1) .shape in
     omega (arith, s .room, cond .cond-expm-with-room .ensures .1 .long)
 
 returns : tie.Need-returns
@@ -46,7 +45,7 @@ returns c =
     let r = refused .refused-condition in
     let x = condExpM binary64 (a .rows) (now (a .a)) in
     let t = why .why .given .1 in (
-      condition-refused ofCondExpm call (asked .result) (asked .ensures) (r .result .outcome) x (r .result .ratio) (r .result .derivative) (r .result .exponential) _ t (r .ensures .0) (r .ensures .1) (r .ensures .2) (r .ensures .3),
+      condition-refused ofCondExpm call (asked .result) (asked .ensures) x (r .result .outcome) _ _ t (r .ensures .0) (r .ensures .1),
       kept-where (a .clears) (condExpm binary64 (a .rows) (a .columns) (now (a .a)) (length (now (a .w)))) (now (a .w)) (sym (workspace-no ofCondExpm call x (asked .result) (asked .ensures) _ t (now (a .w)))),
     )
 
@@ -58,12 +57,12 @@ returns-2 c =
     let a = start .args in
     let asked = ask-cond-expm .ask-cond-expm in
     let call = unary (a .rows) (a .columns) (now (a .a)) [] (length (now (a .w))) in
-    let s = accepted false anywhere false call (asked .result) (asked .ensures) (told .enum-told .given .1) .shape in
+    let s = accepted withoutExponent anywhere everyOrder call (asked .result) (asked .ensures) (told .enum-told .given .1) .shape in
     let r = cond .cond-expm-with-room in
     let x = condExpM binary64 (a .rows) (now (a .a)) in
     let t = told .enum-told .given .1 in (
-      condition-passed ofCondExpm call (asked .result) (asked .ensures) (r .result .outcome) x (r .result .ratio) (r .result .derivative) (r .result .exponential) t (r .ensures .0),
-      workspace-passed ofCondExpm call (asked .result) (asked .ensures) (r .result .outcome) x (r .result .ratio) (r .result .derivative) (r .result .exponential) (a .clears) (now (a .w)) (r .last .1 .1 .0) (clear-where .clear-where .last .0) t (late-condExpM binary64 (a .rows) (now (a .a))) (s .room) (r .ensures .1) (clear-where .clear-where .ensures),
+      condition-passed ofCondExpm call (asked .result) (asked .ensures) x (r .result .outcome) _ t (r .ensures .0),
+      workspace-passed ofCondExpm call (asked .result) (asked .ensures) x (a .clears) (now (a .w)) (r .last .1 .1 .0) (clear-where .clear-where .last .0) t (late-condExpM binary64 (a .rows) (now (a .a))) (s .room) (r .ensures .1) (clear-where .clear-where .ensures),
     )
 
 pub cond-expm-with-spec : {M : Type 1} → statement M

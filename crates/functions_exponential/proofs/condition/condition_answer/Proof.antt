@@ -13,14 +13,14 @@ returns c =
     let (condition-of, outcome, s) : tie.After-condition-of × tie.After-outcome × tie.Start = search in
     let a = s .args in
     let k = condition-of .condition-of in
-    answered-done (conditionOf binary64 (frobenius binary64 (a .n) (now (a .x))) (frobenius binary64 (a .n) (now (a .d)))) (a .outcome) _ (k .result .ratio) (k .result .derivative) (k .result .exponential) (outcome .outcome .given .1) (k .ensures)
+    answered-done (conditionOf binary64 (frobenius binary64 (a .n) (now (a .x))) (frobenius binary64 (a .n) (now (a .d)))) _ (a .outcome) _ (outcome .outcome .given .1) (k .ensures)
 
 returns-2 : tie.Need-returns-2
 returns-2 c =
     let (refused, outcome2, s) : tie.After-refused-condition × tie.After-outcome2 × tie.Start = search in
     let a = s .args in
     let k = refused .refused-condition in
-    answered-none (conditionOf binary64 (frobenius binary64 (a .n) (now (a .x))) (frobenius binary64 (a .n) (now (a .d)))) (a .outcome) (k .result .outcome) _ (k .result .ratio) (k .result .derivative) (k .result .exponential) (outcome2 .outcome2 .given .1) (k .ensures .0) (k .ensures .1) (k .ensures .2) (k .ensures .3)
+    answered-none (conditionOf binary64 (frobenius binary64 (a .n) (now (a .x))) (frobenius binary64 (a .n) (now (a .d)))) _ (a .outcome) (k .result .outcome) _ (outcome2 .outcome2 .given .1) (k .ensures .0) (k .ensures .1)
 
 pub condition-answer-spec : {M : Type 1} → statement M
 condition-answer-spec =

@@ -19,9 +19,10 @@ returns c =
     let (ratio-of, sqrt2, sum-of-squares2, sqrt, sum-of-squares, s) :
     tie.After-ratio-of × tie.After-sqrt2 × tie.After-sum-of-squares2 × tie.After-sqrt × tie.After-sum-of-squares × tie.Start = search in
     let n = s .args .n in
-    let x = sqrt .sqrt .ensures ∙ ap (sqrtOf binary64) (sum-of-squares .sum-of-squares .ensures ∙ ap (sumOfSquares binary64 (n * n)) (part-all (now (s .args .x)) (n * n) (s .pre .0))) in
-    let d = sqrt2 .sqrt2 .ensures ∙ ap (sqrtOf binary64) (sum-of-squares2 .sum-of-squares2 .ensures ∙ ap (sumOfSquares binary64 (n * n)) (part-all (now (s .args .d)) (n * n) (s .pre .1))) in
-    record { ratios = ratio-of .ratio-of .ensures ∙ (λ i. cond (lt +zero (x i)) (div binary64 (d i) (x i)) one); derivatives = d; exponentials = x }
+    let x = sqrt .sqrt .ensures .0 ∙ ap (sqrtOf binary64) (sum-of-squares .sum-of-squares .ensures ∙ ap (sumOfSquares binary64 (n * n)) (part-all (now (s .args .x)) (n * n) (s .pre .0))) in
+    let d = sqrt2 .sqrt2 .ensures .0 ∙ ap (sqrtOf binary64) (sum-of-squares2 .sum-of-squares2 .ensures ∙ ap (sumOfSquares binary64 (n * n)) (part-all (now (s .args .d)) (n * n) (s .pre .1))) in
+    let ratio = ratio-of .ratio-of .ensures ∙ (λ i. cond (lt +zero (x i)) (div binary64 (d i) (x i)) one) in
+    λ i. record { ratio = ratio i; derivativeNorm = d i; exponentialNorm = x i }
 
 pub condition-of-spec : {M : Type 1} → statement M
 condition-of-spec =

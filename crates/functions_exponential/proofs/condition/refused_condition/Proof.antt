@@ -6,7 +6,7 @@ use Rattle.functions_exponential.proofs.condition.refused_condition.Sta
 use Rattle.functions_exponential.proofs.condition.refused_condition.Tie as tie
 
 returns : tie.Need-returns
-returns c = (refl, +zero-bits binary64, +zero-bits binary64, +zero-bits binary64)
+returns c = (refl, λ i. record { ratio = +zero-bits binary64 i; derivativeNorm = +zero-bits binary64 i; exponentialNorm = +zero-bits binary64 i })
 
 pub refused-condition-spec : {M : Type 1} → statement M
 refused-condition-spec = tie.close (tie.spec returns)

@@ -25,7 +25,7 @@ returns c =
     let (copy-out, call, sqrt, of-small, s) : tie.After-copy-out × tie.After-diagonal × tie.After-sqrt × tie.After-of-small × tie.Start = search in
     let n = s .args .n in
     let w = now (s .args .w) in
-    let stored = call .diagonal .ensures ∙ ap (λ (x : Float). store w 0 (diagonalM n x)) (unit-number binary64 n _ _ (s .pre .0 .order) (of-small .of-small .ensures) (sqrt .sqrt .ensures)) in
+    let stored = call .diagonal .ensures ∙ ap (λ (x : Float). store w 0 (diagonalM n x)) (unit-number binary64 n _ _ (s .pre .0 .order) (of-small .of-small .ensures) (sqrt .sqrt .ensures .0)) in
     (unit-read _ n w _ _ (s .pre .0) (s .pre .1) stored (copy-out .copy-out .ensures), stored)
 
 pub unit-direction-spec : {M : Type 1} → statement M

@@ -1,13 +1,12 @@
 -- `expm_with` meets its contract. Assumes nothing.
 use mathlib.Core.Path.{refl}
-use mathlib.Core.Bool.{true, false}
 use mathlib.Core.List.{[], _∷_}
 use native.Mathlib.Omega.{arith}
 use denote.Ref.{now}
 use lib.Dec.{lit<}
 use lib.ListN.{length}
 use lib.Ieee.{binary64}
-use Rattle.arithmetic_questions.specs.Questions.{unary, anywhere, ofExpm}
+use Rattle.arithmetic_questions.specs.Questions.{unary, withoutExponent, anywhere, ordersFromTwo, ofExpm}
 use Rattle.arithmetic_matrices.proofs.MatrixLaws.{square-le}
 use Rattle.arithmetic_questions.proofs.QuestionLaws.{accepted}
 use Rattle.arithmetic_questions.proofs.OutputLaws.{one-refused, one-done}
@@ -24,7 +23,7 @@ copy-in-requires c κs =
     let a = start .args in
     let asked = ask-expm .ask-expm in
     let call = unary (a .rows) (a .columns) (now (a .a)) (length (now (a .out)) ∷ []) (length (now (a .w))) in
-    let s = accepted false anywhere true call (asked .result) (asked .ensures) (told .enum-told .given .1) .shape in
+    let s = accepted withoutExponent anywhere ordersFromTwo call (asked .result) (asked .ensures) (told .enum-told .given .1) .shape in
     (lit< tt, omega (arith, square-le (a .rows) (omega (arith, s .small)), s .long, s .room))
 
 expm-in-requires : tie.Need-expm-in-requires
@@ -33,7 +32,7 @@ expm-in-requires c κs =
     let a = start .args in
     let asked = ask-expm .ask-expm in
     let call = unary (a .rows) (a .columns) (now (a .a)) (length (now (a .out)) ∷ []) (length (now (a .w))) in
-    let s = accepted false anywhere true call (asked .result) (asked .ensures) (told .enum-told .given .1) .shape in
+    let s = accepted withoutExponent anywhere ordersFromTwo call (asked .result) (asked .ensures) (told .enum-told .given .1) .shape in
     record { order = omega (arith, s .small); space = omega (arith, s .room, copy-in .copy-in .kept .0) }
 
 deliver-requires : tie.Need-deliver-requires
@@ -43,7 +42,7 @@ deliver-requires c κs =
     let a = start .args in
     let asked = ask-expm .ask-expm in
     let call = unary (a .rows) (a .columns) (now (a .a)) (length (now (a .out)) ∷ []) (length (now (a .w))) in
-    let s = accepted false anywhere true call (asked .result) (asked .ensures) (told .enum-told .given .1) .shape in
+    let s = accepted withoutExponent anywhere ordersFromTwo call (asked .result) (asked .ensures) (told .enum-told .given .1) .shape in
     (omega (arith, square-le (a .rows) (omega (arith, s .small)), s .outputs .0), omega (arith, s .room, copy-in .copy-in .kept .0, expm-in .expm-in .ensures .only .long))
 
 returns : tie.Need-returns
@@ -63,7 +62,7 @@ returns-2 c =
     let a = start .args in
     let asked = ask-expm .ask-expm in
     let call = unary (a .rows) (a .columns) (now (a .a)) (length (now (a .out)) ∷ []) (length (now (a .w))) in
-    let s = accepted false anywhere true call (asked .result) (asked .ensures) (told .enum-told .given .1) .shape in
+    let s = accepted withoutExponent anywhere ordersFromTwo call (asked .result) (asked .ensures) (told .enum-told .given .1) .shape in
     let copy1 = copy-in .copy-in in
     let x = expm-in .expm-in in
     let d = deliver .deliver in

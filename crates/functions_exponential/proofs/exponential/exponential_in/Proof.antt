@@ -2,7 +2,7 @@
 use mathlib.Core.Path.{ap, _∙_}
 use denote.Ref.{now}
 use lib.Ieee.{Float, binary64}
-use Rattle.arithmetic_matrices.specs.Product.{scaleM}
+use Rattle.arithmetic_matrices.specs.Product.{timesM}
 use Rattle.arithmetic_matrices.specs.Workspace.{slot, store}
 use Rattle.functions_exponential.proofs.ExponentialLaws.{exponential-steps}
 use borrow.Author.Needs.{needs}
@@ -17,7 +17,7 @@ returns c =
     let scale1 = scale .scale in
     let a = s .args in
     exponential-steps binary64 (a .n) (now (a .w)) (s .pre .0) (a .s) (scale1 .last .0) (pade1 .last .0) (square1 .last .0)
-    (scale1 .ensures ∙ ap (λ (b : Float). store (now (a .w)) 0 (scaleM binary64 (a .n) b (slot (a .n) (now (a .w)) 0))) (inverse .inverse-power-of-two .ensures)) (pade1 .ensures) (square1 .ensures)
+    (scale1 .ensures ∙ ap (λ (b : Float). store (now (a .w)) 0 (timesM binary64 (a .n) b (slot (a .n) (now (a .w)) 0))) (inverse .inverse-power-of-two .ensures)) (pade1 .ensures) (square1 .ensures)
 
 pub exponential-in-spec : {M : Type 1} → statement M
 exponential-in-spec =

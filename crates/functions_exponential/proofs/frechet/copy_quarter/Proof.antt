@@ -7,7 +7,8 @@ use borrow.Author.Needs.{needs}
 use lib.ListN.{length}
 use Rattle.arithmetic_matrices.specs.Kernels.{rowsTo, withRow}
 use Rattle.arithmetic_matrices.proofs.PatchLaws.{length-rowsTo, rows-none, rows-more, rows-all}
-use Rattle.functions_definitions.specs.Exponential.{quarterRow, quarter}
+use Rattle.functions_definitions.specs.Exponential.{quarter}
+use Rattle.functions_exponential.specs.Kernels.{quarterRow}
 use Rattle.functions_exponential.proofs.frechet.copy_quarter.Statement.{statement}
 use Rattle.functions_exponential.proofs.frechet.copy_quarter.Tie as tie
 
@@ -36,7 +37,7 @@ loop-again c =
     (omega arith, ap length e ∙ length-rowsTo (a .n) F (a .out .now) (l .i + 1) ∙ s .pre .3, e)
 
 returns : tie.Need-returns Inv-loop μ-loop
-unfolding quarter
+unfolding quarter quarterRow
 returns c =
     let head : tie.At-loop Inv-loop μ-loop = search in
     let s : tie.Start Inv-loop μ-loop = search in

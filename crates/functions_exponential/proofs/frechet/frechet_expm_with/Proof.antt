@@ -1,11 +1,10 @@
 -- `frechet_expm_with` meets its contract. Assumes nothing.
-use mathlib.Core.Bool.{false}
 use mathlib.Core.List.{[], _∷_}
 use native.Mathlib.Omega.{arith}
 use denote.Ref.{now}
 use lib.ListN.{length}
 use lib.Ieee.{binary64}
-use Rattle.arithmetic_questions.specs.Questions.{binary, anywhere, ofFrechetExpm}
+use Rattle.arithmetic_questions.specs.Questions.{binary, withoutExponent, anywhere, everyOrder, ofFrechetExpm}
 use Rattle.arithmetic_questions.proofs.QuestionLaws.{accepted-directed}
 use Rattle.arithmetic_questions.proofs.BothLaws.{two-refused}
 use Rattle.functions_definitions.specs.Derivatives.{frechetExpM}
@@ -23,7 +22,7 @@ frechet-expm-in-requires c κs =
     let a = start .args in
     let asked = ask .ask-frechet-expm in
     let call = binary (a .rows) (a .columns) (now (a .a)) (a .height) (a .width) (now (a .e)) (length (now (a .first)) ∷ length (now (a .second)) ∷ []) (length (now (a .w))) in
-    let (m, d) = accepted-directed false anywhere false call (asked .result) (asked .ensures) (told .enum-told .given .1) in
+    let (m, d) = accepted-directed withoutExponent anywhere everyOrder call (asked .result) (asked .ensures) (told .enum-told .given .1) in
     let s = m .shape in
     (record { order = omega (arith, s .small); space = s .room }, (s .small, s .long, d .shape .long, s .outputs .0, s .outputs .1 .0))
 
@@ -33,7 +32,7 @@ clear-where-requires c κs =
     let a = s .args in
     let asked = ask .ask-frechet-expm in
     let call = binary (a .rows) (a .columns) (now (a .a)) (a .height) (a .width) (now (a .e)) (length (now (a .first)) ∷ length (now (a .second)) ∷ []) (length (now (a .w))) in
-    let (m, d) = accepted-directed false anywhere false call (asked .result) (asked .ensures) (told .enum-told .given .1) in
+    let (m, d) = accepted-directed withoutExponent anywhere everyOrder call (asked .result) (asked .ensures) (told .enum-told .given .1) in
     omega (arith, m .shape .room, frechet-expm-in .frechet-expm-in .ensures .only .long)
 
 returns : tie.Need-returns
@@ -57,7 +56,7 @@ returns-2 c =
     let asked = ask .ask-frechet-expm in
     let call = binary (a .rows) (a .columns) (now (a .a)) (a .height) (a .width) (now (a .e)) (length (now (a .first)) ∷ length (now (a .second)) ∷ []) (length (now (a .w))) in
     let told = enum-told .enum-told .given .1 in
-    let (m, d) = accepted-directed false anywhere false call (asked .result) (asked .ensures) told in
+    let (m, d) = accepted-directed withoutExponent anywhere everyOrder call (asked .result) (asked .ensures) told in
     let x = frechetExpM binary64 (a .rows) (now (a .a)) (now (a .e)) in
     let f = frechet-expm-in .frechet-expm-in in
     let clear1 = clear-where .clear-where in (

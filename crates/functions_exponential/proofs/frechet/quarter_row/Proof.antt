@@ -10,7 +10,7 @@ use Rattle.arithmetic_matrices.specs.Matrix.{at}
 use Rattle.arithmetic_matrices.specs.Kernels.{rowTo, withRow}
 use Rattle.arithmetic_matrices.proofs.MatrixLaws.{index-lt}
 use Rattle.arithmetic_matrices.proofs.PatchLaws.{length-rowTo, row-none, row-more}
-use Rattle.functions_definitions.specs.Exponential.{quarterRow}
+use Rattle.functions_exponential.specs.Kernels.{quarterRow}
 use Rattle.functions_exponential.proofs.frechet.quarter_row.Statement.{statement}
 use Rattle.functions_exponential.proofs.frechet.quarter_row.Tie as tie
 

@@ -26,7 +26,7 @@ returns-2 c =
     let x = start .args .norm in
     let asked = ask-norm .ask-norm in
     let told = enum-told .enum-told .given .1 in
-    (passed-report x (asked .result) _ (asked .ensures) told (halvings-of .halvings-of .ensures), λ s e. passed-few binary64 x s _ (subst T (sym (start .good .0 .1)) tt) (halvings-of .halvings-of .ensures) e)
+    (passed-report x (asked .result) _ (asked .ensures) told (halvings-of .halvings-of .ensures .0), λ s e. passed-few binary64 x s _ (subst T (sym (start .good .0 .1)) tt) (halvings-of .halvings-of .ensures .0) e)
 
 pub halvings-for-spec : {M : Type 1} → statement M
 halvings-for-spec =

@@ -1,11 +1,7 @@
 -- `frechet_logm` meets its contract. Assumes nothing.
-use Rattle.arithmetic_questions.proofs.BothLaws.{clearing-two}
 use borrow.Author.Needs.{needs}
 use Rattle.functions_logarithms.proofs.calls.frechet_logm.Statement.{statement}
 use Rattle.functions_logarithms.proofs.calls.frechet_logm.Tie as tie
-
-returns : tie.Need-returns
-returns c = let frechet : tie.After-frechet-logm-with = search in clearing-two (frechet .frechet-logm-with .ensures)
 
 pub frechet-logm-spec : {M : Type 1} → statement M
 frechet-logm-spec =
@@ -15,4 +11,4 @@ frechet-logm-spec =
     (λ c. search needs)
     (λ c. search needs)
     (λ c. search needs)
-    returns)
+    (λ c. search needs))

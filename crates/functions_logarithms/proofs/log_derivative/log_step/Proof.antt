@@ -7,7 +7,7 @@ use Rattle.functions_logarithms.proofs.log_derivative.log_step.Tie as t
 
 returns : tie.Need-returns
 unfolding ofBits logStep
-returns c = let sqrt : tie.After-sqrt = search in sqrt .sqrt .ensures
+returns c = let sqrt : tie.After-sqrt = search in sqrt .sqrt .ensures .0
 
 pub log-step-spec : {M : Type 1} → statement M
 log-step-spec = tie.close (tie.spec (λ c κs. search needs) returns)

@@ -19,7 +19,7 @@ unfolding ofBits frobenius slot
 returns c =
     let (sqrt2, sqrt, sums-of-squares) : tie.After-sqrt2 × tie.After-sqrt × tie.After-sums-of-squares = search in
     let s = sums-of-squares .sums-of-squares .ensures in
-    rw (sqrt2 .sqrt2 .ensures, sqrt .sqrt .ensures, s .0, s .1)
+    rw (sqrt2 .sqrt2 .ensures .0, sqrt .sqrt .ensures .0, s .0, s .1)
 
 pub is-last-spec : {M : Type 1} → statement M
 is-last-spec =

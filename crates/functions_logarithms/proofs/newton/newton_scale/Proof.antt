@@ -12,7 +12,7 @@ returns c =
     let d = of-small .of-small in
     let t = trace .trace in
     let a = start .args in
-    scale-above binary64 (a .n) (a .w .now) (t .result) (d .result) (s .result) (t .ensures) (d .ensures) (s .ensures) (taken1 .if1 .taken)
+    scale-above binary64 (a .n) (a .w .now) (t .result) (d .result) (s .result) (t .ensures) (d .ensures) (s .ensures .0) (taken1 .if1 .taken)
 
 returns-2 : tie.Need-returns-2
 returns-2 c =
@@ -21,7 +21,7 @@ returns-2 c =
     let d = of-small .of-small in
     let t = trace .trace in
     let a = start .args in
-    scale-one binary64 (a .n) (a .w .now) (t .result) (d .result) (s .result) (t .ensures) (d .ensures) (s .ensures) (left1 .if1 .left)
+    scale-one binary64 (a .n) (a .w .now) (t .result) (d .result) (s .result) (t .ensures) (d .ensures) (s .ensures .0) (left1 .if1 .left)
 
 pub newton-scale-spec : {M : Type 1} → statement M
 newton-scale-spec =

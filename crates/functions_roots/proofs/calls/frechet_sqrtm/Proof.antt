@@ -1,11 +1,7 @@
 -- `frechet_sqrtm` meets its contract. Assumes nothing.
-use Rattle.arithmetic_questions.proofs.BothLaws.{clearing-two}
 use borrow.Author.Needs.{needs}
 use Rattle.functions_roots.proofs.calls.frechet_sqrtm.Statement.{statement}
 use Rattle.functions_roots.proofs.calls.frechet_sqrtm.Tie as tie
-
-returns : tie.Need-returns
-returns c = let frechet : tie.After-frechet-sqrtm-with = search in clearing-two (frechet .frechet-sqrtm-with .ensures)
 
 pub frechet-sqrtm-spec : {M : Type 1} → statement M
 frechet-sqrtm-spec =
@@ -15,4 +11,4 @@ frechet-sqrtm-spec =
     (λ c. search needs)
     (λ c. search needs)
     (λ c. search needs)
-    returns)
+    (λ c. search needs))

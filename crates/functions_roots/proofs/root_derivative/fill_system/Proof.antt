@@ -2,20 +2,21 @@
 use mathlib.Core.Path.{ap, _∙_}
 use lib.Ieee.{binary64}
 use Rattle.arithmetic_matrices.specs.Matrix.{part}
-use Rattle.functions_roots.proofs.RootDerivativeLaws.{fourth-le, system-filled}
+use Rattle.functions_roots.proofs.RootDerivativeLaws.{system-filled}
+use native.Mathlib.Nat.{mul-le-mul}
 use native.Mathlib.Omega.{arith}
 use borrow.Author.Needs.{needs}
 use Rattle.functions_roots.proofs.root_derivative.fill_system.Statement.{statement}
 use Rattle.functions_roots.proofs.root_derivative.fill_system.Tie as tie
 
 mul-end-3 : tie.Need-mul-end-3
-mul-end-3 c = let s : tie.Start = search in omega (arith, fourth-le (s .args .n) (s .pre .1))
+mul-end-3 c = let s : tie.Start = search in omega (arith, mul-le-mul (s .pre .1) (s .pre .1))
 
 add-end : tie.Need-add-end
-add-end c = let s : tie.Start = search in omega (arith, fourth-le (s .args .n) (s .pre .1))
+add-end c = let s : tie.Start = search in omega (arith, mul-le-mul (s .pre .1) (s .pre .1))
 
 part-sylvester-into-end : tie.Need-part-sylvester-into-end
-part-sylvester-into-end c = let s : tie.Start = search in omega (arith, fourth-le (s .args .n) (s .pre .1), s .pre .2)
+part-sylvester-into-end c = let s : tie.Start = search in omega (arith, mul-le-mul (s .pre .1) (s .pre .1), s .pre .2)
 
 returns : tie.Need-returns
 returns c =

@@ -1,11 +1,11 @@
 -- `solve_system` meets its contract: the local room has n * n places. Assumes nothing.
-use native.Mathlib.Nat.{mul-one}
+use native.Mathlib.Nat.{mul-one, mul-le-mul}
 use Prim.Native.Nat.{_*_}
 use mathlib.Core.Path.{sym}
 use mathlib.Core.Logic.{inr}
 use lib.Seq.{length-take-le}
 use lib.Ieee.{binary64}
-use Rattle.functions_roots.proofs.RootDerivativeLaws.{fourth-le, system-solved}
+use Rattle.functions_roots.proofs.RootDerivativeLaws.{system-solved}
 use native.Mathlib.Omega.{arith}
 use borrow.Author.Needs.{needs}
 use Rattle.functions_roots.proofs.root_derivative.solve_system.Statement.{statement}
@@ -22,7 +22,7 @@ divide-requires c κs =
     let pivot-room : tie.After-pivot-room = search in
     let s : tie.Start = search in
     let n = s .args .n in
-    let few = fourth-le n (s .pre .1) in
+    let few = mul-le-mul (s .pre .1) (s .pre .1) in
     let one = mul-one (n * n) in (
       s .pre .1,
       omega (arith, few, s .pre .2),

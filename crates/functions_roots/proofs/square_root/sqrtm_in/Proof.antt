@@ -9,7 +9,7 @@ use Rattle.functions_roots.proofs.square_root.sqrtm_in.Tie as tie
 returns : tie.Need-returns
 returns c =
     let (sqrt, taken1, s) : tie.After-sqrt × tie.Then1 × tie.Start = search in
-    root-number binary64 (s .args .n) (s .args .w .now) (s .pre) (sqrt .sqrt .result) _ (taken1 .if1 .taken) (sqrt .sqrt .ensures) refl
+    root-number binary64 (s .args .n) (s .args .w .now) (s .pre) (sqrt .sqrt .result) _ (taken1 .if1 .taken) (sqrt .sqrt .ensures .0) refl
 
 returns-2 : tie.Need-returns-2
 returns-2 c =

@@ -8,7 +8,7 @@ use Rattle.arithmetic_floats.specs.Float.{+zero}
 use Rattle.arithmetic_floats.proofs.Constants.{+zero-bits}
 use Rattle.arithmetic_matrices.specs.Matrix.{tab, at, item, put}
 use Rattle.arithmetic_matrices.proofs.PartLaws.{put-none, put-store}
-use Rattle.functions_roots.specs.Kernels.{addedWhere}
+use Rattle.functions_definitions.specs.Derivatives.{addedWhere}
 use native.Mathlib.Omega.{arith}
 use borrow.Author.Needs.{needs}
 use Rattle.functions_roots.proofs.sylvester.sylvester_part.Statement.{statement}

@@ -5,9 +5,8 @@ use lib.Ieee.{Float, binary64}
 use Rattle.arithmetic_floats.specs.Float.{+zero}
 use Rattle.arithmetic_matrices.specs.Matrix.{at, put, tab}
 use Rattle.arithmetic_matrices.proofs.MatrixLaws.{row-end}
-use Rattle.functions_definitions.specs.Derivatives.{sylvesterEntry}
+use Rattle.functions_definitions.specs.Derivatives.{addedWhere, sylvesterEntry}
 use Rattle.arithmetic_matrices.proofs.FilledLaws.{Filled, filled-none, filled-more, row-parts}
-use Rattle.functions_roots.specs.Kernels.{addedWhere}
 use native.Mathlib.Omega.{arith}
 use borrow.Author.Needs.{needs}
 use Rattle.functions_roots.proofs.sylvester.sylvester_row.Statement.{statement}

@@ -1,13 +1,14 @@
 -- `forward_step` meets its contract. The invariant: the rows from k + 1 up to i are done. The measure is what is left of the rows.
 -- Assumes nothing.
 use Prim.Native.Nat.{_≤_, _<_, _-_, _+_}
-use mathlib.Core.Path.{_≡_, refl, ap, _∙_}
-use lib.ListN.{length, getD, length-set}
+use mathlib.Core.Path.{_≡_, ap, _∙_}
+use mathlib.Core.Logic.{inl}
+use lib.ListN.{length, length-set}
 use lib.Ieee.{binary64, nan}
 use Rattle.arithmetic_matrices.specs.Kernels.{patch}
 use Rattle.arithmetic_matrices.proofs.PatchLaws.{patch-none}
 use Rattle.lu_factoring.specs.Kernels.{lowered}
-use Rattle.lu_factoring.proofs.SolveLaws.{forward-row, forward-step}
+use Rattle.lu_factoring.proofs.SolveLaws.{lowered-row, forward-step}
 use native.Mathlib.Omega.{arith}
 use borrow.Author.Needs.{needs}
 use Rattle.lu.proofs.substitution.forward_step.Statement.{statement}
@@ -33,8 +34,7 @@ loop-again c =
       omega arith,
       omega arith,
       length-set (l .x) (l .i) _ ∙ l .inv .2,
-      forward-row binary64 (a .n) (a .f .now) (a .k) (a .x .now) (l .i) (l .x) _ (getD (l .x) (l .i) nan) (entry1 .entry .result) (getD (l .x) (a .k) nan)
-          (l .inv .0) (omega arith) (l .inv .3) refl refl (entry1 .entry .ensures) refl,
+      lowered-row binary64 (a .n) (a .f .now) (a .k) (a .k + 1) (l .i) (a .x .now) (omega arith) (l .x) (entry1 .entry .result) (omega arith) (omega arith) (inl (omega arith)) (l .inv .3) (entry1 .entry .ensures),
     )
 
 returns : tie.Need-returns Inv-loop μ-loop

@@ -1,13 +1,14 @@
 -- `subtract_above` meets its contract. The invariant: the rows below i are done. The measure is what is left of the rows.
 -- Assumes nothing.
 use Prim.Native.Nat.{_≤_, _-_}
-use mathlib.Core.Path.{_≡_, refl, ap, _∙_}
-use lib.ListN.{length, getD, length-set}
+use mathlib.Core.Path.{_≡_, ap, _∙_}
+use mathlib.Core.Logic.{inr}
+use lib.ListN.{length, length-set}
 use lib.Ieee.{binary64, nan}
 use Rattle.arithmetic_matrices.specs.Kernels.{patch}
 use Rattle.arithmetic_matrices.proofs.PatchLaws.{patch-none}
 use Rattle.lu_factoring.specs.Kernels.{lowered}
-use Rattle.lu_factoring.proofs.SolveLaws.{back-row}
+use Rattle.lu_factoring.proofs.SolveLaws.{lowered-row}
 use native.Mathlib.Omega.{arith}
 use borrow.Author.Needs.{needs}
 use Rattle.lu.proofs.substitution.subtract_above.Statement.{statement}
@@ -33,8 +34,7 @@ loop-again c =
     let a = s .args in (
       omega arith,
       length-set (l .x) (l .i) _ ∙ l .inv .1,
-      back-row binary64 (a .n) (a .f .now) (a .k) (a .x .now) (l .i) (l .x) _ (getD (l .x) (l .i) nan) (entry1 .entry .result) (getD (l .x) (a .k) nan)
-          (turn .loop-test .taken) (omega arith) (l .inv .2) refl refl (entry1 .entry .ensures) refl,
+      lowered-row binary64 (a .n) (a .f .now) (a .k) 0 (l .i) (a .x .now) (omega arith) (l .x) (entry1 .entry .result) (omega arith) (omega arith) (inr (omega arith)) (l .inv .2) (entry1 .entry .ensures),
     )
 
 returns : tie.Need-returns Inv-loop μ-loop

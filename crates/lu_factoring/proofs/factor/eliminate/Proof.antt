@@ -7,7 +7,8 @@ use lib.Ieee.{binary64, emax, hid, div, ofBits}
 use Rattle.arithmetic_floats.specs.Float.{one}
 use Rattle.arithmetic_matrices.specs.Kernels.{rowsTo}
 use Rattle.arithmetic_matrices.proofs.PatchLaws.{length-rowsTo}
-use Rattle.lu_factoring.proofs.LuLaws.{eliminatedEntry, eliminate-none, eliminate-turn, eliminate-all}
+use Rattle.lu_factoring.specs.Lu.{eliminatedEntry}
+use Rattle.lu_factoring.proofs.LuLaws.{eliminate-none, eliminate-turn, eliminate-all}
 use native.Mathlib.Omega.{arith}
 use borrow.Author.Needs.{needs}
 use Rattle.lu_factoring.proofs.factor.eliminate.Statement.{statement}

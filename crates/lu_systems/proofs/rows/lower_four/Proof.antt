@@ -8,7 +8,7 @@ use lib.ListN.{length-set}
 use lib.Ieee.{binary64}
 use Rattle.arithmetic_matrices.proofs.MatrixLaws.{row-end, more-rows}
 use Rattle.arithmetic_matrices.proofs.ProductLaws.{put-first, put-next}
-use Rattle.lu_systems.specs.Kernels.{lowerEntry}
+use Rattle.lu_systems.specs.Kernels.{lowerEntry, rowAt, columnAt}
 use Rattle.lu_systems.proofs.ByRows.{lower-none, lower-turn, lower-done}
 use Rattle.lu_systems.proofs.rows.lower_four.Statement.{statement}
 use Rattle.lu_systems.proofs.rows.lower_four.Tie as tie
@@ -16,10 +16,10 @@ use Rattle.lu_systems.proofs.rows.lower_four.Tie as tie
 abbrev Inv-loop : tie.InvT-loop
 Inv-loop w q x y j k m z s0₀ s1₀ s2₀ s3₀ r₀ i₀ s0 s1 s2 s3 r i =
     (i ≤ k) × (r ≡ x + (i * m + j))
-    × (s0 ≡ lowerEntry binary64 i m w q x y (j + 0))
-    × (s1 ≡ lowerEntry binary64 i m w q x y (j + 1))
-    × (s2 ≡ lowerEntry binary64 i m w q x y (j + 2))
-    × (s3 ≡ lowerEntry binary64 i m w q x y (j + 3))
+    × (s0 ≡ lowerEntry binary64 i (rowAt w q) (columnAt m w x) (rowAt w y) (j + 0))
+    × (s1 ≡ lowerEntry binary64 i (rowAt w q) (columnAt m w x) (rowAt w y) (j + 1))
+    × (s2 ≡ lowerEntry binary64 i (rowAt w q) (columnAt m w x) (rowAt w y) (j + 2))
+    × (s3 ≡ lowerEntry binary64 i (rowAt w q) (columnAt m w x) (rowAt w y) (j + 3))
 
 abbrev μ-loop : tie.MeasureT-loop
 μ-loop w q x y j k m z s0₀ s1₀ s2₀ s3₀ r₀ i₀ s0 s1 s2 s3 r i = k - i

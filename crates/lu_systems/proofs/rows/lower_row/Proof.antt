@@ -6,13 +6,13 @@ use lib.ListN.{length}
 use lib.Ieee.{binary64}
 use Rattle.arithmetic_matrices.specs.Matrix.{tab, put}
 use Rattle.arithmetic_matrices.proofs.PartLaws.{put-none}
-use Rattle.lu_systems.specs.Kernels.{lowerEntry}
+use Rattle.lu_systems.specs.Kernels.{lowerEntry, rowAt, columnAt}
 use Rattle.lu_systems.proofs.ByRows.{lower-more}
 use Rattle.lu_systems.proofs.rows.lower_row.Statement.{statement}
 use Rattle.lu_systems.proofs.rows.lower_row.Tie as tie
 
 abbrev Inv-loop : tie.InvT-loop
-Inv-loop w₀ q x y k m j₀ w j = (j ≤ m) × (length w ≡ length w₀) × (w ≡ put w₀ y (tab j (lowerEntry binary64 k m w₀ q x y)))
+Inv-loop w₀ q x y k m j₀ w j = (j ≤ m) × (length w ≡ length w₀) × (w ≡ put w₀ y (tab j (lowerEntry binary64 k (rowAt w₀ q) (columnAt m w₀ x) (rowAt w₀ y))))
 
 abbrev μ-loop : tie.MeasureT-loop
 μ-loop w₀ q x y k m j₀ w j = m - j

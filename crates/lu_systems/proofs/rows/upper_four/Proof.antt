@@ -7,6 +7,7 @@ use lib.ListN.{length, length-set}
 use lib.Ieee.{binary64}
 use Rattle.arithmetic_matrices.proofs.MatrixLaws.{row-end, more-rows}
 use Rattle.arithmetic_matrices.proofs.ProductLaws.{put-first, put-next}
+use Rattle.lu_systems.specs.Kernels.{rowAt, columnAt}
 use Rattle.lu_systems.proofs.ByRows.{upperSum, upper-none, upper-turn, upper-done, row-down}
 use Rattle.lu_systems.proofs.rows.upper_four.Statement.{statement}
 use Rattle.lu_systems.proofs.rows.upper_four.Tie as tie
@@ -14,10 +15,10 @@ use Rattle.lu_systems.proofs.rows.upper_four.Tie as tie
 abbrev Inv-loop : tie.InvT-loop
 Inv-loop w g y j k m z s0₀ s1₀ s2₀ s3₀ p₀ r₀ s0 s1 s2 s3 p r =
     (r ≤ k) × (p ≡ y + (r * m + j))
-    × (s0 ≡ upperSum binary64 (k - r) k m w g y (j + 0))
-    × (s1 ≡ upperSum binary64 (k - r) k m w g y (j + 1))
-    × (s2 ≡ upperSum binary64 (k - r) k m w g y (j + 2))
-    × (s3 ≡ upperSum binary64 (k - r) k m w g y (j + 3))
+    × (s0 ≡ upperSum binary64 (k - r) k (rowAt w g) (columnAt m w y) (rowAt w y) (j + 0))
+    × (s1 ≡ upperSum binary64 (k - r) k (rowAt w g) (columnAt m w y) (rowAt w y) (j + 1))
+    × (s2 ≡ upperSum binary64 (k - r) k (rowAt w g) (columnAt m w y) (rowAt w y) (j + 2))
+    × (s3 ≡ upperSum binary64 (k - r) k (rowAt w g) (columnAt m w y) (rowAt w y) (j + 3))
 
 abbrev μ-loop : tie.MeasureT-loop
 μ-loop w g y j k m z s0₀ s1₀ s2₀ s3₀ p₀ r₀ s0 s1 s2 s3 p r = r

@@ -6,13 +6,13 @@ use lib.ListN.{length}
 use lib.Ieee.{binary64}
 use Rattle.arithmetic_matrices.specs.Matrix.{tab, put}
 use Rattle.arithmetic_matrices.proofs.PartLaws.{put-none}
-use Rattle.lu_systems.specs.Kernels.{upperEntry}
+use Rattle.lu_systems.specs.Kernels.{upperEntry, rowAt, columnAt}
 use Rattle.lu_systems.proofs.ByRows.{upper-more}
 use Rattle.lu_systems.proofs.rows.upper_row.Statement.{statement}
 use Rattle.lu_systems.proofs.rows.upper_row.Tie as tie
 
 abbrev Inv-loop : tie.InvT-loop
-Inv-loop w₀ g y k m j₀ w j = (j ≤ m) × (length w ≡ length w₀) × (w ≡ put w₀ y (tab j (upperEntry binary64 k m w₀ g y)))
+Inv-loop w₀ g y k m j₀ w j = (j ≤ m) × (length w ≡ length w₀) × (w ≡ put w₀ y (tab j (upperEntry binary64 k (rowAt w₀ g) (columnAt m w₀ y) (rowAt w₀ y))))
 
 abbrev μ-loop : tie.MeasureT-loop
 μ-loop w₀ g y k m j₀ w j = m - j

@@ -2,7 +2,6 @@
 use Prim.Native.Nat.{_*_}
 use mathlib.Core.Path.{refl}
 use native.Mathlib.Nat.{mul-le-mul}
-use Rattle.arithmetic_matrices.proofs.MatrixLaws.{square-le8}
 use native.Mathlib.Omega.{arith}
 use Rattle.sheet.proofs.position.direction_at.Statement.{statement}
 use Rattle.sheet.proofs.position.direction_at.Tie as tie
@@ -10,36 +9,28 @@ use Rattle.sheet.proofs.position.direction_at.Tie as tie
 mul-size : tie.Need-mul-size
 mul-size c =
     let s : tie.Start = search in
-    let a = s .args in
-    let q = square-le8 (a .n) (omega arith) in
-    omega (arith, q)
+    omega (arith, mul-le-mul (s .pre .0) (s .pre .0))
 
 mul-size-2 : tie.Need-mul-size-2
 mul-size-2 c =
     let s : tie.Start = search in
-    let a = s .args in
-    let q = square-le8 (a .n) (omega arith) in
-    omega (arith, q)
+    omega (arith, mul-le-mul (s .pre .0) (s .pre .0))
 
 add-result : tie.Need-add-result
 add-result c =
     let s : tie.Start = search in
-    let a = s .args in
-    let q = square-le8 (a .n) (omega arith) in
-    omega (arith, q)
+    omega (arith, mul-le-mul (s .pre .0) (s .pre .0))
 
 add-result-2 : tie.Need-add-result-2
 add-result-2 c =
     let s : tie.Start = search in
-    let a = s .args in
-    let q = square-le8 (a .n) (omega arith) in
-    omega (arith, q)
+    omega (arith, mul-le-mul (s .pre .0) (s .pre .0))
 
 mul-result : tie.Need-mul-result
 mul-result c =
     let s : tie.Start = search in
     let a = s .args in
-    let q = square-le8 (a .n) (omega arith) in
+    let q = mul-le-mul (s .pre .0) (s .pre .0) in
     let m = mul-le-mul {n₁ = a .i} {m₁ = 8 * (a .n * a .n)} {n₂ = 8} {m₂ = 512} (omega arith) (omega (arith, q)) in
     omega (arith, q, m)
 
@@ -47,7 +38,7 @@ add-result-3 : tie.Need-add-result-3
 add-result-3 c =
     let s : tie.Start = search in
     let a = s .args in
-    let q = square-le8 (a .n) (omega arith) in
+    let q = mul-le-mul (s .pre .0) (s .pre .0) in
     let m = mul-le-mul {n₁ = a .i} {m₁ = 8 * (a .n * a .n)} {n₂ = 8} {m₂ = 512} (omega arith) (omega (arith, q)) in
     omega (arith, q, m)
 
@@ -55,7 +46,7 @@ returns : tie.Need-returns
 returns c =
     let s : tie.Start = search in
     let a = s .args in
-    let q = square-le8 (a .n) (omega arith) in
+    let q = mul-le-mul (s .pre .0) (s .pre .0) in
     let m = mul-le-mul {n₁ = a .i} {m₁ = 8 * (a .n * a .n)} {n₂ = 8} {m₂ = 512} (omega arith) (omega (arith, q)) in
     (refl, omega (arith, q, m))
 

@@ -16,10 +16,10 @@ run-accepted-requires c κs =
 
 returns : tie.Need-returns
 returns c =
-    let (put-refused, coded, k, parse-sheet, s) : tie.After-put-refused × tie.After-coded × tie.After-k × tie.After-parse-sheet × tie.Start = search in
+    let (put, why, parse-sheet, s) : tie.After-put-sheet-refused × tie.After-why × tie.After-parse-sheet × tie.Start = search in
     let parsed = parse-sheet .parse-sheet in
-    let line = put-refused .put-refused .ensures in
-    record { wrote = rw (← lines-refused binary64 (now (s .args .s)) (parsed .result) _ _ _ _ _ (parsed .ensures) (k .k .given .1) (coded .coded .ensures)) (line .0); short = omega (arith, line .1) }
+    let line = put .put-sheet-refused .ensures in
+    record { wrote = rw (← lines-refused binary64 (now (s .args .s)) (parsed .result) _ (parsed .ensures) (why .why .given .1)) (line .0); short = omega (arith, line .1) }
 
 returns-2 : tie.Need-returns-2
 returns-2 c =
@@ -33,7 +33,6 @@ run-spec =
     (tie.spec
     (λ c κs. search needs)
     (λ c. search needs)
-    (λ c κs. search needs)
     (λ c κs. search needs)
     (λ c. search needs)
     run-accepted-requires

@@ -1,10 +1,11 @@
--- `run_tasks` meets its contract: after k tasks their k lines are written, of at most 2,187 bytes each. Assumes nothing.
+-- `run_tasks` meets its contract: after k tasks their k lines are written, of at most `lineLimit` bytes each. Assumes nothing.
 use Prim.Native.Nat.{_*_, _-_, _≤_}
 use mathlib.Core.Path.{_≡_, refl, ap, _∙_}
 use denote.Ref.{now}
 use lib.ListN.{length}
 use lib.Ieee.{binary64}
 use Rattle.sheet.specs.Tasks.{taskLines}
+use Rattle.sheet_encoding.specs.Limits.{lineLimit}
 use Rattle.sheet_encoding.specs.Kernels.{Wrote}
 use Rattle.sheet_encoding.proofs.BytesLaws.{length-numbersAt}
 use Rattle.sheet_encoding.proofs.WroteLaws.{wrote-none, wrote-more}
@@ -14,7 +15,7 @@ use Rattle.sheet.proofs.run.run_tasks.Statement.{statement}
 use Rattle.sheet.proofs.run.run_tasks.Tie as tie
 
 abbrev Inv-loop : tie.InvT-loop
-Inv-loop s q n d t out₀ a e₀ x₀ y₀ w₀ at₀ k₀ out e x y w at k = (k ≤ t) × (at ≤ 2187 * k) × (length out ≡ length out₀) × (length e ≡ length e₀) × (length x ≡ length x₀) × (length y ≡ length y₀) × (length w ≡ length w₀) × Wrote out₀ 0 (taskLines binary64 s n d q k) out at
+Inv-loop s q n d t out₀ a e₀ x₀ y₀ w₀ at₀ k₀ out e x y w at k = (k ≤ t) × (at ≤ lineLimit * k) × (length out ≡ length out₀) × (length e ≡ length e₀) × (length x ≡ length x₀) × (length y ≡ length y₀) × (length w ≡ length w₀) × Wrote out₀ 0 (taskLines binary64 s n d q k) out at
 
 abbrev μ-loop : tie.MeasureT-loop
 μ-loop s q n d t out₀ a e₀ x₀ y₀ w₀ at₀ k₀ out e x y w at k = t - k

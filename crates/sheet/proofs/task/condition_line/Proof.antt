@@ -20,7 +20,7 @@ put-answer-requires c κs =
     let a = b .args in
     let v = cond-expm-with .cond-expm-with in
     let x = condExpm binary64 (a .n) (a .n) (now (a .a)) (length (now (a .w))) in
-    record { space = b .pre .space; number = b .pre .number; few = few-reported x (v .result .outcome) (few-condition (a .n) (now (a .a)) (length (now (a .w)))) (v .ensures .0 .outcome); numbers = omega arith }
+    record { space = b .pre .space; number = b .pre .number; few = few-reported x (v .result .outcome) (few-condition binary64 (a .n) (now (a .a)) (length (now (a .w)))) (v .ensures .0 .outcome); numbers = omega arith }
 
 returns : tie.Need-returns
 returns c =
@@ -29,7 +29,7 @@ returns c =
     let v = cond-expm-with .cond-expm-with in
     let x = condExpm binary64 (a .n) (a .n) (now (a .a)) (length (now (a .w))) in
     let same = ap (λ (k : ℕ). ratio (condExpm binary64 (a .n) (a .n) (now (a .a)) k)) (b .pre .workspace) in
-    lined-as binary64 (a .task) (carried-ratio x (v .result .outcome) (v .result .ratio) (v .ensures .0 .outcome) (v .ensures .0 .ratios) ∙ same) (put-answer .put-answer .ensures)
+    lined-as binary64 (a .task) (carried-ratio x (v .result .outcome) _ (v .ensures .0) ∙ same) (put-answer .put-answer .ensures)
 
 pub condition-line-spec : {M : Type 1} → statement M
 condition-line-spec =

@@ -4,11 +4,11 @@ use mathlib.Core.List.{List}
 use denote.Ref.{now}
 use lib.Ieee.{Float, binary64}
 use Prim.Native.Nat.{ℕ, _*_}
-use Rattle.arithmetic_matrices.proofs.MatrixLaws.{square-le8}
 use Rattle.sheet_encoding.specs.Bytes.{numbersAt}
 use Rattle.sheet.specs.Tasks.{derivativeFor, both}
 use Rattle.sheet.proofs.FewLaws.{few-derivative, few-reported}
 use Rattle.sheet.proofs.TaskLaws.{carried-both, lined-as}
+use native.Mathlib.Nat.{mul-le-mul}
 use native.Mathlib.Omega.{arith}
 use borrow.Author.Needs.{needs}
 use Rattle.sheet.proofs.task.derivative_line.Statement.{statement}
@@ -23,8 +23,8 @@ put-answer-requires c κs =
     record {
       space = b .pre .0 .space;
       number = b .pre .0 .number;
-      few = few-reported (derivativeFor binary64 (a .n) (now (a .a)) e (a .code)) (v .result .outcome) (few-derivative (a .n) (now (a .a)) e (a .code)) (v .ensures .outcome);
-      numbers = omega (arith, square-le8 (a .n) (b .pre .0 .order), b .pre .1 .0 .1, b .pre .1 .0 .2, v .kept .1 .1 .1 .1 .0, v .kept .1 .1 .1 .1 .1 .0);
+      few = few-reported (derivativeFor binary64 (a .n) (now (a .a)) e (a .code)) (v .result .outcome) (few-derivative binary64 (a .n) (now (a .a)) e (a .code)) (v .ensures .outcome);
+      numbers = omega (arith, mul-le-mul (b .pre .0 .order) (b .pre .0 .order), b .pre .1 .0 .1, b .pre .1 .0 .2, v .kept .1 .1 .1 .1 .0, v .kept .1 .1 .1 .1 .1 .0);
     }
 
 returns : tie.Need-returns

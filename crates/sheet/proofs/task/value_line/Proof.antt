@@ -3,10 +3,10 @@ use mathlib.Core.Path.{ap, _∙_}
 use denote.Ref.{now}
 use lib.Ieee.{Float, binary64}
 use Prim.Native.Nat.{ℕ}
-use Rattle.arithmetic_matrices.proofs.MatrixLaws.{square-le8}
 use Rattle.sheet.specs.Tasks.{valueFor, exponentFor}
 use Rattle.sheet.proofs.FewLaws.{few-value, few-reported}
 use Rattle.sheet.proofs.TaskLaws.{carried-one, lined-as}
+use native.Mathlib.Nat.{mul-le-mul}
 use native.Mathlib.Omega.{arith}
 use borrow.Author.Needs.{needs}
 use Rattle.sheet.proofs.task.value_line.Statement.{statement}
@@ -27,8 +27,8 @@ put-answer-requires c κs =
     record {
       space = b .pre .0 .space;
       number = b .pre .0 .number;
-      few = few-reported x (v .result .outcome) (few-value (a .n) (now (a .a)) (exponent-for .exponent-for .result) (a .code)) (v .ensures .outcome);
-      numbers = omega (arith, square-le8 (a .n) (b .pre .0 .order), b .pre .1 .0, v .kept .1 .1 .1 .1 .0);
+      few = few-reported x (v .result .outcome) (few-value binary64 (a .n) (now (a .a)) (exponent-for .exponent-for .result) (a .code)) (v .ensures .outcome);
+      numbers = omega (arith, mul-le-mul (b .pre .0 .order) (b .pre .0 .order), b .pre .1 .0, v .kept .1 .1 .1 .1 .0);
     }
 
 returns : tie.Need-returns

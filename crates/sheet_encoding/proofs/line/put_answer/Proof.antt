@@ -1,13 +1,13 @@
 -- `put_answer` meets its contract. Assumes nothing.
 use native.Mathlib.Omega.{arith}
-use mathlib.Core.Path.{subst}
+use mathlib.Core.Path.{subst, ap, _∙_}
 use mathlib.Core.List.{_++_}
 use denote.Ref.{now}
 use lib.Ieee.{binary64}
 use Rattle.arithmetic_questions.specs.Answers.{reported}
 use Rattle.arithmetic_questions.specs.declared.answer.Outcome.{Outcome}
 use Rattle.sheet_encoding.specs.Kernels.{Few}
-use Rattle.sheet_encoding.proofs.LineLaws.{answer-done, answer-no}
+use Rattle.sheet_encoding.proofs.LineLaws.{answer-done, refused-line}
 use borrow.Author.Needs.{needs}
 use Rattle.sheet_encoding.proofs.line.put_answer.Statement.{statement}
 use Rattle.sheet_encoding.proofs.line.put_answer.Tie as tie
@@ -32,7 +32,7 @@ returns-2 c =
     let (put-refused, code-of, outcome2, s) : tie.After-put-refused × tie.After-code-of × tie.After-outcome2 × tie.Start = search in
     let a = s .args in
     let line = put-refused .put-refused .ensures in
-    record { wrote = rw (← answer-no binary64 (a .task) _ _ _ (a .outcome) _ (now (a .first) ++ now (a .second)) (outcome2 .outcome2 .given .1) (code-of .code-of .ensures)) (line .0); short = omega (arith, line .1) }
+    record { wrote = rw (← refused-line binary64 (a .task) _ _ _ (reported (a .outcome)) (now (a .first) ++ now (a .second)) (ap reported (outcome2 .outcome2 .given .1) ∙ code-of .code-of .ensures)) (line .0); short = omega (arith, line .1) }
 
 pub put-answer-spec : {M : Type 1} → statement M
 put-answer-spec =

@@ -52,15 +52,14 @@ parse-exponents-requires c κs =
 returns : tie.Need-returns
 unfolding parseDirections
 returns c =
-    let (parse-exponents, d, section) : tie.After-parse-exponents × tie.After-d × tie.After-section = search in
-    parse-exponents .parse-exponents .ensures ∙ rw (← section .section .ensures .0, d .d .given .1)
+    let (parse-exponents, d, section, s) : tie.After-parse-exponents × tie.After-d × tie.After-section × tie.Start = search in
+    parse-exponents .parse-exponents .ensures ∙ rw (← s .pre .1, ← section .section .ensures .0, d .d .given .1)
 
 returns-2 : tie.Need-returns-2
 unfolding parseDirections
 returns-2 c =
-    let k : tie.After-k = search in
-    let section : tie.After-section = search in
-    rw (← section .section .ensures .0, k .k .given .1)
+    let (why, section, s) : tie.After-why × tie.After-section × tie.Start = search in
+    rw (← s .pre .1, ← section .section .ensures .0, why .why .given .1)
 
 pub parse-directions-spec : {M : Type 1} → statement M
 parse-directions-spec =

@@ -11,14 +11,14 @@ unfolding parseEnd
 returns c =
     let taken1 : tie.Then1 = search in
     let s : tie.Start = search in
-    let a = s .args in simp (lt-leb (length (now (a .s))) (a .p) (taken1 .if1 .taken))
+    let a = s .args in rw (← s .pre, lt-leb (length (now (a .s))) (a .p) (taken1 .if1 .taken))
 
 returns-2 : tie.Need-returns-2
 unfolding parseEnd
 returns-2 c =
     let left1 : tie.Else1 = search in
     let s : tie.Start = search in
-    let a = s .args in simp (le-leb (length (now (a .s))) (a .p) (left1 .if1 .left))
+    let a = s .args in rw (← s .pre, le-leb (length (now (a .s))) (a .p) (left1 .if1 .left))
 
 pub parse-end-spec : {M : Type 1} → statement M
 parse-end-spec = tie.close (tie.spec returns returns-2)

@@ -34,15 +34,14 @@ parse-tasks-requires c κs =
 returns : tie.Need-returns
 unfolding parseExponents
 returns c =
-    let (parse-tasks, e, section) : tie.After-parse-tasks × tie.After-e × tie.After-section = search in
-    parse-tasks .parse-tasks .ensures ∙ rw (← section .section .ensures .0, e .e .given .1)
+    let (parse-tasks, e, section, s) : tie.After-parse-tasks × tie.After-e × tie.After-section × tie.Start = search in
+    parse-tasks .parse-tasks .ensures ∙ rw (← s .pre .1, ← section .section .ensures .0, e .e .given .1)
 
 returns-2 : tie.Need-returns-2
 unfolding parseExponents
 returns-2 c =
-    let k : tie.After-k = search in
-    let section : tie.After-section = search in
-    rw (← section .section .ensures .0, k .k .given .1)
+    let (why, section, s) : tie.After-why × tie.After-section × tie.Start = search in
+    rw (← s .pre .1, ← section .section .ensures .0, why .why .given .1)
 
 pub parse-exponents-spec : {M : Type 1} → statement M
 parse-exponents-spec =

@@ -53,9 +53,9 @@ returns c =
 returns-2 : tie.Need-returns-2
 unfolding parseSheet
 returns-2 c =
-    let k : tie.After-k = search in
+    let why : tie.After-why = search in
     let order : tie.After-order = search in
-    rw (← order .order .ensures .0, k .k .given .1)
+    rw (← order .order .ensures .0, why .why .given .1)
 
 pub parse-sheet-spec : {M : Type 1} → statement M
 parse-sheet-spec =

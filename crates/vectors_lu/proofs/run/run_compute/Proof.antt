@@ -6,67 +6,40 @@ use borrow.Author.Needs.{needs}
 use Rattle.vectors_lu.proofs.run.run_compute.Statement.{statement}
 use Rattle.vectors_lu.proofs.run.run_compute.Tie as tie
 
-returns : tie.Need-returns
-returns c = search needs
-
-returns-2 : tie.Need-returns-2
-returns-2 c = search needs
-
-returns-3 : tie.Need-returns-3
-returns-3 c = search needs
-
-number-room-requires : tie.Need-number-room-requires
-number-room-requires c κs = search needs
-
-pivot-room-requires : tie.Need-pivot-room-requires
-pivot-room-requires c κs = search needs
-
-workspace-room-requires : tie.Need-workspace-room-requires
-workspace-room-requires c κs = search needs
-
-array-borrow-prefix-factors : tie.Need-array-borrow-prefix-factors
-array-borrow-prefix-factors c = search needs
-
 slice-aggregate-compute-agrees : tie.Need-slice-aggregate-compute-agrees
-slice-aggregate-compute-agrees c = sym (length-take-le _ _ (omega (arith, c .before .before .before .before .before .before .if1 .left, c .before .before .before .number-room .ensures)))
-
-array-borrow-prefix-pivots : tie.Need-array-borrow-prefix-pivots
-array-borrow-prefix-pivots c = search needs
+slice-aggregate-compute-agrees c =
+    let number-room : tie.After-number-room = search in
+    let left1 : tie.Else1 = search in
+    sym (length-take-le _ _ (omega (arith, left1 .if1 .left, number-room .number-room .ensures)))
 
 slice-aggregate-compute-agrees-2 : tie.Need-slice-aggregate-compute-agrees-2
-slice-aggregate-compute-agrees-2 c = sym (length-take-le _ _ (omega (arith, c .before .before .before .before .before .before .if2 .left, c .before .before .before .pivot-room .ensures)))
-
-array-borrow-prefix-w : tie.Need-array-borrow-prefix-w
-array-borrow-prefix-w c = search needs
+slice-aggregate-compute-agrees-2 c =
+    let pivot-room : tie.After-pivot-room = search in
+    let left2 : tie.Else2 = search in
+    sym (length-take-le _ _ (omega (arith, left2 .if2 .left, pivot-room .pivot-room .ensures)))
 
 slice-aggregate-compute-agrees-3 : tie.Need-slice-aggregate-compute-agrees-3
-slice-aggregate-compute-agrees-3 c = sym (length-take-le _ _ (omega (arith, c .before .before .before .before .before .before .if3 .left, c .before .before .before .workspace-room .ensures)))
-
-compute-agrees-requires : tie.Need-compute-agrees-requires
-compute-agrees-requires c κs = search needs
-
-judged-requires : tie.Need-judged-requires
-judged-requires c κs = search needs
-
-returns-4 : tie.Need-returns-4
-returns-4 c = search needs
+slice-aggregate-compute-agrees-3 c =
+    let workspace-room : tie.After-workspace-room = search in
+    let left3 : tie.Else3 = search in
+    sym (length-take-le _ _ (omega (arith, left3 .if3 .left, workspace-room .workspace-room .ensures)))
 
 pub run-compute-spec : {M : Type 1} → statement M
 run-compute-spec =
     tie.close
     (tie.spec
-    returns
-    returns-2
-    returns-3
-    number-room-requires
-    pivot-room-requires
-    workspace-room-requires
-    array-borrow-prefix-factors
+    (λ c. search needs)
+    (λ c. search needs)
+    (λ c. search needs)
+    (λ c κs. search needs)
+    (λ c κs. search needs)
+    (λ c κs. search needs)
+    (λ c. search needs)
     slice-aggregate-compute-agrees
-    array-borrow-prefix-pivots
+    (λ c. search needs)
     slice-aggregate-compute-agrees-2
-    array-borrow-prefix-w
+    (λ c. search needs)
     slice-aggregate-compute-agrees-3
-    compute-agrees-requires
-    judged-requires
-    returns-4)
+    (λ c κs. search needs)
+    (λ c κs. search needs)
+    (λ c. search needs))

@@ -6,35 +6,20 @@ use borrow.Author.Needs.{needs}
 use Rattle.vectors_lu.proofs.run.run_solve.Statement.{statement}
 use Rattle.vectors_lu.proofs.run.run_solve.Tie as tie
 
-returns : tie.Need-returns
-returns c = search needs
-
-number-room-requires : tie.Need-number-room-requires
-number-room-requires c κs = search needs
-
-array-borrow-prefix-out : tie.Need-array-borrow-prefix-out
-array-borrow-prefix-out c = search needs
-
 slice-aggregate-solve-agrees : tie.Need-slice-aggregate-solve-agrees
-slice-aggregate-solve-agrees c = sym (length-take-le _ _ (omega (arith, c .before .before .if1 .left, c .before .number-room .ensures)))
-
-solve-agrees-requires : tie.Need-solve-agrees-requires
-solve-agrees-requires c κs = search needs
-
-judged-requires : tie.Need-judged-requires
-judged-requires c κs = search needs
-
-returns-2 : tie.Need-returns-2
-returns-2 c = search needs
+slice-aggregate-solve-agrees c =
+    let number-room : tie.After-number-room = search in
+    let left1 : tie.Else1 = search in
+    sym (length-take-le _ _ (omega (arith, left1 .if1 .left, number-room .number-room .ensures)))
 
 pub run-solve-spec : {M : Type 1} → statement M
 run-solve-spec =
     tie.close
     (tie.spec
-    returns
-    number-room-requires
-    array-borrow-prefix-out
+    (λ c. search needs)
+    (λ c κs. search needs)
+    (λ c. search needs)
     slice-aggregate-solve-agrees
-    solve-agrees-requires
-    judged-requires
-    returns-2)
+    (λ c κs. search needs)
+    (λ c κs. search needs)
+    (λ c. search needs))

@@ -1,0 +1,1 @@
+// Demand 3 at numbers. The theorems stand in specs/.

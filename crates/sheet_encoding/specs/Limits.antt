@@ -1,0 +1,19 @@
+-- The limits of a sheet and of what is written for it. Definitions only.
+use Prim.Native.Nat.{ℕ}
+
+-- a sheet has at most so many tasks
+abbrev pub taskLimit : ℕ
+taskLimit = 16
+
+-- the codes are those below
+abbrev pub codeLimit : ℕ
+codeLimit = 10
+
+-- The most bytes of a line: 2 digits of a task's number, 3 bytes for ` ok`, a space and 4 digits of halvings, 128 numbers of 17 bytes with their spaces, and
+-- the newline.
+abbrev pub lineLimit : ℕ
+lineLimit = 2187
+
+-- the bytes of output that the entry asks for: there is room for the most lines of the most bytes
+abbrev pub outputLimit : ℕ
+outputLimit = 35000
