@@ -11,7 +11,7 @@ use Rattle.arithmetic_questions.specs.declared.answer.Outcome.{Outcome}
 
 -- The workspace. Where `clears` is true, as document 01 says: after the refusals 1 to 11 as it was lent, otherwise its first 8,192 places hold +0 and later ones are unchanged.
 -- Where `clears` is false the same without the clearing: after the refusals 1 to 11 as it was lent, otherwise its first 8,192 places hold anything and later ones are unchanged
--- (so said: cleared, both are the same). The sheet calls its functions so and clears once.
+-- (so said: cleared, both are the same). The sheet calls its functions so, since its workspace is its own.
 abbrev pub WorkspaceLeft : {A : Type 0} → Bool → Result A → List Float → List Float → Type 0
 WorkspaceLeft true x w w′ = w′ ≡ workspaceOf x w
 WorkspaceLeft false x w w′ = workspaceOf x w′ ≡ workspaceOf x w

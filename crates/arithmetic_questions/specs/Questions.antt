@@ -109,6 +109,7 @@ pub data Domain : Type 0 where
 pub data Orders : Type 0 where
   ordersFromTwo everyOrder : Orders
 
+-- which cases a function has
 pub record Profile : Type 0 where
   pub emptiness : Emptiness
   pub shape : Shape
@@ -248,6 +249,7 @@ orderQuestion everyOrder c = passes
 
 -- ---- all of them in order: first shapes and lengths, 1 to 5, then the numbers, 6 to 11
 
+-- 1 to 5 of a function, in order
 unfoldable pub shapeQuestions : Profile → Call → List Found
 shapeQuestions p c =
     rowsQuestion (p .emptiness) c
@@ -258,6 +260,7 @@ shapeQuestions p c =
     ++ workspaceQuestion (p .workspace) c
     ∷ []
 
+-- 6 to 11 of a function, in order
 unfoldable pub numberQuestions : Profile → Call → List Found
 unfolding allFinite pivotsFrom
 numberQuestions p c =

@@ -7,6 +7,7 @@ use lib.Dec.{leb}
 use lib.Ieee.{Float}
 use Rattle.arithmetic_matrices.specs.Workspace.{cleared}
 
+-- refused, with the number and two details, or done, with the halvings and what is given
 pub data Result (A : Type 0) : Type 0 where
   refused : ℕ → ℕ → ℕ → Result A
   done : ℕ → A → Result A

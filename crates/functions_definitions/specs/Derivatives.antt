@@ -22,15 +22,18 @@ use Rattle.functions_definitions.specs.Powers.{expM}
 
 -- ---- the exponential: the upper quarters of that of [A E; 0 A]
 
+-- the two upper quarters of a matrix of order 2 n: the value and the derivative
 unfoldable pub blockQuarters : ℕ → Result (List Float) → Result Both
 blockQuarters n (refused k x y) = refused k x y
 blockQuarters n (done s b) = done s (record { value = quarter n 0 b; derivative = quarter n n b })
 
+-- frechet_expm
 unfoldable pub frechetExpM : Format → ℕ → List Float → List Float → Result Both
 frechetExpM f n a e = blockQuarters n (expM f (n + n) (block n a e))
 
 -- ---- the logarithm: (log (A + h E) - log A) / h, where h is the root of epsilon
 
+-- h: 2 ^ -26 for binary64
 unfoldable pub logStep : Format → Float
 logStep f = sqrtOf f (epsilon f)
 
@@ -38,6 +41,7 @@ logStep f = sqrtOf f (epsilon f)
 unfoldable pub secondLogarithm : Format → ℕ → List Float → List Float → List Float → Result Both
 secondLogarithm f n a e l = logarithm f n (addMultipleM f n (logStep f) e a) >>= λ m. done 0 (record { value = l; derivative = differenceQuotientM f n (logStep f) m l })
 
+-- frechet_logm
 unfoldable pub frechetLogM : Format → ℕ → List Float → List Float → Result Both
 frechetLogM f n a e = logarithm f n a >>= λ l. secondLogarithm f n a e l
 
@@ -67,9 +71,11 @@ sylvester f n s e = orNotConverged (columnDivision f (n * n) (sylvesterMatrix f 
 unfoldable pub scalarDerivative : Format → Float → Float → Float
 scalarDerivative f r e = cond (lt +zero r) (div f e (mul f (powerOfTwo 1) r)) +zero
 
+-- X, at every order
 unfoldable pub rootDerivative : Format → ℕ → List Float → List Float → Result (List Float)
 rootDerivative f n s e = cond (eqb n 1) (done 0 (scalarDerivative f (item s 0) (item e 0) ∷ [])) (sylvester f n s e)
 
+-- frechet_sqrtm: the root S, and X
 unfoldable pub frechetSqrtM : Format → ℕ → List Float → List Float → Result Both
 frechetSqrtM f n a e =
     squareRoot f n a >>= λ s.
@@ -78,11 +84,13 @@ frechetSqrtM f n a e =
 
 -- ---- the condition of the exponential, in the one direction I / root of n
 
+-- the ratio of the norms, and the Frobenius norms of the derivative and of the exponential
 pub record Condition : Type 0 where
   pub ratio : Float
   pub derivativeNorm : Float
   pub exponentialNorm : Float
 
+-- I / root of n. The source works the root out in binary64.
 unfoldable pub unitDirection : Format → ℕ → List Float
 unitDirection f n = diagonalM n (div f one (constant f (sqrtOf binary64 (ofInt binary64 (pos n)))))
 
@@ -90,9 +98,11 @@ unitDirection f n = diagonalM n (div f one (constant f (sqrtOf binary64 (ofInt b
 unfoldable pub conditionOf : Format → Float → Float → Condition
 conditionOf f x d = record { ratio = cond (lt +zero x) (div f d x) one; derivativeNorm = d; exponentialNorm = x }
 
+-- the condition of an exponential and its derivative
 unfoldable pub conditioned : Format → ℕ → Result Both → Result Condition
 conditioned f n (refused k x y) = refused k x y
 conditioned f n (done s b) = done s (conditionOf f (frobenius f n (b .value)) (frobenius f n (b .derivative)))
 
+-- cond_expm
 unfoldable pub condExpM : Format → ℕ → List Float → Result Condition
 condExpM f n a = conditioned f n (frechetExpM f n a (unitDirection f n))

@@ -51,9 +51,11 @@ module _ (f : Format) (n : ℕ) where
   unfolding combinationTo
   combination c a = combinationTo c a 14
 
+  -- the sum with the coefficients
   unfoldable pub numerator : List Float → List Float
   numerator a = combination (coefficient f) a
 
+  -- the sum with the coefficients of odd powers negated
   unfoldable pub denominator : List Float → List Float
   denominator a = combination (flipped f) a
 

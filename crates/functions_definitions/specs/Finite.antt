@@ -15,6 +15,7 @@ use Rattle.functions_definitions.specs.Exponential.{power, coefficient, 
 abbrev pub FinitePowers : Format → ℕ → List Float → Type 0
 FinitePowers f n a = (k : ℕ) → k < 12 → FiniteProduct f n (power f n a (suc k)) a
 
+-- each sum of `combination`
 abbrev pub FiniteCombination : Format → ℕ → (ℕ → Float) → List Float → Type 0
 FiniteCombination f n c a = (i j : ℕ) → i < n → j < n → FiniteDot f 14 c (λ k. at n (power f n a k) i j)
 

@@ -78,5 +78,6 @@ module _ (f : Format) (n : ℕ) where
   abbrev pub nearLogarithm : ℕ → List Float → Result (List Float)
   nearLogarithm k w = ended (series (minusIdentityM f n w) furtherTerms) >>= λ s. done 0 (timesM f n (powerOfTwo k) (s .sum))
 
+  -- logm
   unfoldable pub logarithm : List Float → Result (List Float)
   logarithm a = ended (rooting f n a rootLimit) >>= λ r. nearLogarithm (r .roots) (r .work)

@@ -55,5 +55,6 @@ fractionalPower f n a p = logarithm f n a >>= λ l. multipleExponential f n p l
 unfoldable pub isWhole : Float → Bool
 isWhole p = nearInteger binary64 (round binary64 false 1 (10 ^ 14)) p
 
+-- powm: the power p
 unfoldable pub powerM : Format → ℕ → List Float → Float → Result (List Float)
 powerM f n a p = cond (isWhole p) (wholePower f n a (integerOf binary64 p)) (fractionalPower f n a p)

@@ -44,6 +44,7 @@ module _ (f : Format) (n : ℕ) where
   unfoldable pub newtonScale : List Float → Float
   newtonScale a = let r = sqrtOf f (div f (trace f n a) (ofInt f (pos n))) in cond (lt (epsilon f) r) r one
 
+  -- the start
   unfoldable pub newtonStart : List Float → List Float
   newtonStart a = diagonalM n (newtonScale a)
 
@@ -57,6 +58,7 @@ module _ (f : Format) (n : ℕ) where
 
 -- ---- Denman and Beavers: (y, z) becomes ((y + 1 / z) / 2, (z + 1 / y) / 2). y goes to the root, z to its inverse; the test is that of y.
 
+-- the two matrices of the iteration
 pub record Pair : Type 0 where
   pub y : List Float
   pub z : List Float

@@ -86,8 +86,10 @@ module _ (f : Format) (n : ℕ) where
   unfoldable pub trigonometricHalvings : List Float → Result ℕ
   trigonometricHalvings a = halvingsFor (add f (norm1 f n a) one)
 
+  -- cosm
   unfoldable pub cosM : List Float → Result (List Float)
   cosM a = trigonometricHalvings a >>= λ s. done s (cosineAt s a)
 
+  -- sinm
   unfoldable pub sinM : List Float → Result (List Float)
   sinM a = trigonometricHalvings a >>= λ s. done s (sineAt s a)

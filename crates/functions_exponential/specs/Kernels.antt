@@ -27,6 +27,7 @@ pub record Raised (f : Format) (n k : ℕ) (w w′ : List Float) : Type 0 where
   pub raised : slot n w′ 1 ≡ nextPower f n k (slot n w 0) (slot n w 1)
   pub only : Only (member (1 ∷ 4 ∷ [])) w w′
 
+-- slots 2 and 3 become the Padé numerator and denominator of slot 0
 pub record Summed (f : Format) (n : ℕ) (w w′ : List Float) : Type 0 where
   pub above : slot n w′ 2 ≡ numerator f n (slot n w 0)
   pub under : slot n w′ 3 ≡ denominator f n (slot n w 0)
@@ -38,10 +39,12 @@ pub record PadeQuotient (f : Format) (n : ℕ) (w w′ : List Float) (r : LuOutc
   pub divided : slot n w′ 5 ≡ standIn r (quotient f n (slot n w 3) (slot n w 2)) (slot n w 2)
   pub only : Only (member (3 ∷ 5 ∷ [])) w w′
 
+-- slot 0 becomes its Padé quotient
 pub record Approximated (f : Format) (n : ℕ) (w w′ : List Float) : Type 0 where
   pub result : slot n w′ 0 ≡ pade f n (slot n w 0)
   pub only : Only (member (0 ∷ 1 ∷ 2 ∷ 3 ∷ 4 ∷ 5 ∷ [])) w w′
 
+-- slot 0 becomes its exponential at s halvings
 pub record Exponentiated (f : Format) (n s : ℕ) (w w′ : List Float) : Type 0 where
   pub result : slot n w′ 0 ≡ exponential f n s (slot n w 0)
   pub only : Only (member (0 ∷ 1 ∷ 2 ∷ 3 ∷ 4 ∷ 5 ∷ [])) w w′

@@ -16,6 +16,7 @@ use Rattle.functions_definitions.specs.Derivatives.{logStep}
 
 -- ---- the square roots: the matrix stands in slot 0, and slots 1 to 3 are scratch
 
+-- the matrix x, after k roots
 abbrev pub rootedAs : List Float → ℕ → Rooted
 rootedAs x k = record { work = x; roots = k }
 
@@ -35,6 +36,7 @@ abbrev pub asTaken : Roots → List Float → Result Rooted
 asTaken (Taken k) x = done 0 (rootedAs x k)
 asTaken Refused x = refused 13 0 0
 
+-- how many roots were taken, and 0 after a refusal
 abbrev pub countOf : Roots → ℕ
 countOf (Taken k) = k
 countOf Refused = 0
@@ -47,6 +49,7 @@ pub record RootsTaken (f : Format) (n : ℕ) (r : Roots) (w w′ : List Float) :
 
 -- ---- the series: X stands in slot 0, a power of it in slot 1, the sum in slot 2, a term in slot 3
 
+-- the state of the series that stands in a workspace
 abbrev pub seriesIn : ℕ → List Float → Series
 seriesIn n w = record { power = slot n w 1; sum = slot n w 2 }
 

@@ -65,6 +65,7 @@ pub record NewtonRoot (f : Format) (n : ℕ) (r : Pass) (w w′ : List Float) : 
 
 -- ---- Denman and Beavers' iteration: y stands in slot 0, z in slot 1, 1 / z in slot 3, 1 / y in slot 4; slots 2 and 5 are scratch
 
+-- the pair that stands in a workspace
 abbrev pub pairIn : ℕ → List Float → Pair
 pairIn n w = record { y = slot n w 0; z = slot n w 1 }
 
@@ -84,6 +85,7 @@ pub record SecondInverse (f : Format) (n : ℕ) (r : Pass) (w w′ : List Float)
 abbrev pub systemSlots : List ℕ
 systemSlots = 7 ∷ 8 ∷ 9 ∷ 10 ∷ 11 ∷ 12 ∷ 13 ∷ 14 ∷ 15 ∷ 16 ∷ 17 ∷ 18 ∷ 19 ∷ 20 ∷ 21 ∷ 22 ∷ 23 ∷ []
 
+-- the slots that change: that of the derivative and those of the system
 abbrev pub derivedSlots : List ℕ
 derivedSlots = 1 ∷ systemSlots
 

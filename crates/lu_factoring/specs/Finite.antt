@@ -24,6 +24,7 @@ pub record FiniteForwardStep (f : Format) (n : ℕ) (F : List Float) (k : ℕ) (
   pub terms : (i : ℕ) → k < i → i < n → Finite (term f n F k (item x k) i)
   pub differences : (i : ℕ) → k < i → i < n → Finite (lessTerm f n F k (item x k) x i)
 
+-- `forward`, all columns
 abbrev pub FiniteForward : Format → ℕ → List Float → List Float → Type 0
 FiniteForward f n F x = (k : ℕ) → k < n → FiniteForwardStep f n F k (forward f n F x k)
 
@@ -33,6 +34,7 @@ pub record FiniteBackStep (f : Format) (n : ℕ) (F : List Float) (k : ℕ) (x :
   pub terms : (i : ℕ) → i < k → Finite (term f n F k (unknown f n F k x) i)
   pub differences : (i : ℕ) → i < k → Finite (lessTerm f n F k (unknown f n F k x) x i)
 
+-- `back`, all columns
 abbrev pub FiniteBack : Format → ℕ → List Float → List Float → Type 0
 FiniteBack f n F x = (d : ℕ) → d < n → FiniteBackStep f n F (n - suc d) (back f n F x d)
 

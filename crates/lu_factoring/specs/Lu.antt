@@ -35,6 +35,7 @@ unfoldable pub pivotRow : ℕ → List Float → ℕ → ℕ
 unfolding pivotAmong
 pivotRow n a k = pivotAmong n a k (n - suc k)
 
+-- epsilon * n, rounded
 unfoldable pub tolerance : Format → ℕ → Float
 tolerance f n = mul f (epsilon f) (ofInt f (pos n))
 
@@ -75,6 +76,7 @@ reduced f n k t a i j = cond (ltb j k) (at n a i j) (cond (eqb j k) (multiplier 
 unfoldable pub eliminatedEntry : Format → ℕ → ℕ → Float → List Float → ℕ → ℕ → Float
 eliminatedEntry f n k t a i j = cond (ltb k i) (reduced f n k t a i j) (at n a i j)
 
+-- the matrix after the elimination of column k
 unfoldable pub eliminated : Format → ℕ → ℕ → List Float → List Float
 unfolding reduced eliminatedEntry
 eliminated f n k a = grid n n (eliminatedEntry f n k (pivotReciprocal f n k a) a)

@@ -20,6 +20,7 @@ use Rattle.lu_factoring.specs.declared.LuOutcome.the-variants.{Factored,
 
 -- ---- the swaps, in their order
 
+-- the items k and p of x change places
 unfoldable pub swapItems : ℕ → ℕ → ℕ → List Float → List Float
 unfolding exchange
 swapItems n k p x = tab n (λ i. item x (exchange k p i))
@@ -69,6 +70,7 @@ back f n F x (suc d) = backStep f n F (n - suc d) (back f n F x d)
 
 -- ---- the solution
 
+-- x for the right-hand column that is given: swaps, forward and back substitution
 unfoldable pub solved : Format → ℕ → List Float → List ℕ → List Float → List Float
 unfolding permuted forward back
 solved f n F ps x = back f n F (forward f n F (permuted n ps x n) n) n
@@ -89,6 +91,7 @@ signedProduct f n F s (suc k) = mul f (signedProduct f n F s k) (at n F k k)
 abbrev pub signOf : ℕ → Float
 signOf c = cond (eqb (c % 2) 0) one (fin true 1 (pos 0))
 
+-- the determinant
 unfoldable pub determinantOf : Format → ℕ → List Float → List ℕ → Float
 unfolding swaps signedProduct
 determinantOf f n F ps = signedProduct f n F (signOf (swaps ps n)) n
