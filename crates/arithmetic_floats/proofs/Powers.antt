@@ -1,5 +1,5 @@
 -- Powers of two by their bit patterns, over the format: 2 ^ i smallest values. Assumes nothing.
-use mathlib.Core.Path.{_≡_, refl, sym, ap, _∙_, subst}
+use mathlib.Core.Path.{_≡_, refl, sym, ap, _∙_}
 use mathlib.Core.Bool.{Bool, true, false, not, cond, _&&_}
 use Prim.Native.Nat.{ℕ, zero, suc, _+_, _-_, _*_, _/_, _%_, _^_, _≤_, _<_}
 use native.Mathlib.Nat.{le-refl, le-of-eq, le-of-lt, lt-of-lt-of-le, lt-of-le-of-lt, one-mul, zero-mul, zero-add, mul-right-comm, mul-lt-mul-of-pos-right, lt-of-mul-lt-mul-right, mul-div-cancel, div-one, suc-mul}
@@ -8,7 +8,7 @@ use lib.IntN.{ℤ, pos, negsuc}
 use lib.Dec.{T, leb, ltb, eqb, nleb→lt, le→leb, lt→ltb}
 use lib.Arith.{lt→nleb}
 use lib.Pow.{pow-add, pow-pos, pow-mono, pow-lt}
-use lib.Ieee.{Float, fin, isNan, nanBits, Format, binary32, binary64, prec, emax, low, up, down, minus, size, hid, ones, fits, toBits, ofBits}
+use lib.Ieee.{fin, nanBits, Format, binary32, binary64, prec, emax, low, up, down, minus, size, hid, ones, fits, toBits, ofBits}
 use lib.Ieee.Bits.{is-true, is-false, ofBits-toBits}
 use lib.Ieee.Digits.{minus-val}
 use lib.Ieee.Exact.{HasValue}
@@ -165,14 +165,3 @@ inverse-low-no-nan f s h =
 
     one-le : (e p : ℕ) → 2 ≤ p → p ≤ suc e → 1 ≤ 2 * e
     one-le e p a b = omega arith
-
--- the format holds them
-number : (f : Format) (e : ℤ) → T (fits f (fin false 1 e)) → T (fits f (fin false 1 e) && not (isNan (fin false 1 e)))
-unfolding isNan
-number f e h = and-i (fits f (fin false 1 e)) true h tt
-
-pub power-fits : (f : Format) (s : ℕ) → s ≤ emax f → T (fits f (powerOfTwo s) && not (isNan (powerOfTwo s)))
-power-fits f s h = number f (pos s) (subst (λ (x : Float). T (fits f x)) (power-is (low f) s) (pow-fits f (s + low f) (omega arith)))
-
-pub inverse-fits : (f : Format) (s : ℕ) → s ≤ low f → T (fits f (inversePowerOfTwo s) && not (isNan (inversePowerOfTwo s)))
-inverse-fits f s h = number f (minus 0 s) (subst (λ (x : Float). T (fits f x)) (inverse-is (low f) s h) (pow-fits f (low f - s) (omega arith)))

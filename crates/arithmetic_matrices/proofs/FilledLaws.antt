@@ -34,64 +34,82 @@ grid-append k (suc r) c F =
 
 -- ---- a list that is filled row by row
 
--- v is w with r rows of c numbers, those of G, from place o on, and z is the place after them
-pub record Filled (w : List Float) (o r c : ℕ) (G : ℕ → ℕ → Float) (z : ℕ) (v : List Float) : Type 0 where
+-- v is w with the first r of m rows of c numbers, those of G, from place o on, and z is the place after them
+pub record Filled (w : List Float) (o m c : ℕ) (G : ℕ → ℕ → Float) (z : ℕ) (v : List Float) (r : ℕ) : Type 0 where
+  pub within : r ≤ m
   pub long : length v ≡ length w
   pub place : z ≡ o + r * c
   pub list : v ≡ put w o (grid r c G)
 
-pub filled-none : (w : List Float) (o c : ℕ) (G : ℕ → ℕ → Float) → Filled w o 0 c G o w
-filled-none w o c G = record { long = refl; place = omega (arith, zero-mul c); list = put-no-row w o c G }
+pub filled-start : {w : List Float} {o m c : ℕ} {G : ℕ → ℕ → Float} → Filled w o m c G o w 0
+filled-start {w} {o} {m} {c} {G} = record { within = omega arith; long = refl; place = omega (arith, zero-mul c); list = put-no-row w o c G }
 
--- one row more
-pub filled-more : (w : List Float) (o r c : ℕ) (G : ℕ → ℕ → Float) (z : ℕ) (v v' : List Float) → Filled w o r c G z v
-    → v' ≡ put v z (tab c (G r)) → Filled w o (r + 1) c G (z + c) v'
-filled-more w o r c G z v v' h e = record {
-  long = ap length e ∙ length-put v z (tab c (G r)) ∙ h .long;
-  place = omega (arith, h .place, more-rows r c);
-  list = e ∙ ap₂ (λ (l : List Float) (x : ℕ). put l x (tab c (G r))) (h .list) (h .place) ∙ put-grid-more w o r c G;
-}
+module _ {w : List Float} {o m c : ℕ} {G : ℕ → ℕ → Float} {z : ℕ} {v : List Float} {r : ℕ} (s : Filled w o m c G z v r) where
+  -- the next row lies within the m rows
+  pub filled-inside : r < m → z + c ≤ o + m * c
+  filled-inside h = omega (arith, s .place, row-end r m c h)
 
--- m rows more
-filled-rows : (w : List Float) (o r c : ℕ) (G : ℕ → ℕ → Float) (z : ℕ) (v v' : List Float) (m : ℕ) → Filled w o r c G z v
-    → v' ≡ put v z (grid m c (λ i. G (r + i))) → Filled w o (r + m) c G (z + m * c) v'
-filled-rows w o r c G z v v' m h e = record {
-  long = ap length e ∙ length-put v z (grid m c (λ i. G (r + i))) ∙ h .long;
-  place = omega (arith, h .place, add-mul r m c);
-  list =
-      e
-      ∙ ap₂ (λ (l : List Float) (x : ℕ). put l x (grid m c (λ i. G (r + i)))) (h .list) (h .place)
-      ∙ ap (λ (x : ℕ). put (put w o (grid r c G)) (o + x) (grid m c (λ i. G (r + i)))) (sym (length-grid r c G))
-      ∙ sym (put-append w o (grid r c G) (grid m c (λ i. G (r + i))))
-      ∙ ap (put w o) (sym (grid-append r m c G));
-}
+  pub filled-turn : {v′ : List Float} → r < m → v′ ≡ put v z (tab c (G r)) → Filled w o m c G (z + c) v′ (r + 1)
+  filled-turn {v′} h e = record {
+    within = omega arith;
+    long = ap length e ∙ length-put v z (tab c (G r)) ∙ s .long;
+    place = omega (arith, s .place, more-rows r c);
+    list = e ∙ ap₂ (λ (l : List Float) (x : ℕ). put l x (tab c (G r))) (s .list) (s .place) ∙ put-grid-more w o r c G;
+  }
+
+  pub filled-end : m ≤ r → v ≡ put w o (grid m c G)
+  filled-end h = let e : r ≡ m = omega (arith, s .within) in rw e at (s .list)
+
+  -- k rows more
+  filled-rows : {v′ : List Float} (k : ℕ) → r + k ≤ m → v′ ≡ put v z (grid k c (λ i. G (r + i))) → Filled w o m c G (z + k * c) v′ (r + k)
+  filled-rows {v′} k h e = record {
+    within = h;
+    long = ap length e ∙ length-put v z (grid k c (λ i. G (r + i))) ∙ s .long;
+    place = omega (arith, s .place, add-mul r k c);
+    list =
+        e
+        ∙ ap₂ (λ (l : List Float) (x : ℕ). put l x (grid k c (λ i. G (r + i)))) (s .list) (s .place)
+        ∙ ap (λ (x : ℕ). put (put w o (grid r c G)) (o + x) (grid k c (λ i. G (r + i)))) (sym (length-grid r c G))
+        ∙ sym (put-append w o (grid r c G) (grid k c (λ i. G (r + i))))
+        ∙ ap (put w o) (sym (grid-append r k c G));
+  }
 
 -- ---- blocks
 
--- the rows of the blocks in row i of blocks end within m rows of blocks
-pub rows-end : (i m p c : ℕ) → i < m → i * p * c + p * c ≤ m * p * c
-rows-end i m p c h = omega (arith, add-mul (i * p) p c, mul-le-mul-right c (row-end i m p h))
-
--- a row of blocks, part by part
-pub row-parts : (e : ℕ → ℕ → ℕ → ℕ → Float) (n q i k : ℕ) → grid n q (λ j. e i j k) ≡ tab (n * q) (blockRow q e i k)
+-- all parts of a row of blocks are written: block (i, j) has entry e i j k l at (k, l)
+pub parts-end : {w : List Float} {o m q : ℕ} (e : ℕ → ℕ → ℕ → ℕ → Float) (i k : ℕ) {z : ℕ} {v : List Float} {r : ℕ} → Filled w o m q (λ j. e i j k) z v r → m ≤ r
+    → v ≡ put w o (tab (m * q) (blockRow q e i k))
 unfolding blockRow
-row-parts e n q i k = grid-tab n q (λ j. e i j k)
+parts-end {w} {o} {m} {q} e i k s h = filled-end s h ∙ ap (put w o) (grid-tab m q (λ j. e i j k))
 
 -- row r of all blocks
 abbrev pub allRows : (ℕ → ℕ → ℕ → ℕ → Float) → ℕ → ℕ → ℕ → ℕ → Float
 allRows e p q r = blockRow q e (r / p) (r % p)
 
-module _ (e : ℕ → ℕ → ℕ → ℕ → Float) (n p q : ℕ) where
-  -- one row of blocks more
-  pub filled-blocks : (w : List Float) (i z : ℕ) (v v' : List Float) → Filled w 0 (i * p) (n * q) (allRows e p q) z v
-      → v' ≡ put v z (grid p (n * q) (blockRow q e i)) → Filled w 0 ((i + 1) * p) (n * q) (allRows e p q) (z + p * (n * q)) v'
-  filled-blocks w i z v v' h t =
-      rw more-rows
-      (filled-rows w 0 (i * p) (n * q) (allRows e p q) z v v' p h
-      (t ∙ ap (put v z) (grid-cong p (n * q) (blockRow q e i) (λ k. allRows e p q (i * p + k))
-      (λ k c hk hc. ap₂ (λ (x y : ℕ). blockRow q e x y c) (sym (digits-div i hk)) (sym (digits-mod i hk))))))
+-- the first i of m rows of blocks are written, n blocks of p rows and q columns in each; z is the place after them
+pub record Blocks (w : List Float) (m n p q : ℕ) (e : ℕ → ℕ → ℕ → ℕ → Float) (z : ℕ) (v : List Float) (i : ℕ) : Type 0 where
+  pub within : i ≤ m
+  pub rows : Filled w 0 (m * p) (n * q) (allRows e p q) z v (i * p)
 
-  -- all blocks
-  pub filled-all : (w : List Float) (m z : ℕ) (v : List Float) → length w ≡ m * p * (n * q) → Filled w 0 (m * p) (n * q) (allRows e p q) z v
-      → v ≡ grid (m * p) (n * q) (allRows e p q)
-  filled-all w m z v l h = h .list ∙ put-all w (grid (m * p) (n * q) (allRows e p q)) (length-grid (m * p) (n * q) (allRows e p q) ∙ sym l)
+pub blocks-start : {w : List Float} {m n p q : ℕ} {e : ℕ → ℕ → ℕ → ℕ → Float} → Blocks w m n p q e 0 w 0
+blocks-start = record { within = omega arith; rows = rw zero-mul filled-start }
+
+module _ {w : List Float} {m n p q : ℕ} {e : ℕ → ℕ → ℕ → ℕ → Float} {z : ℕ} {v : List Float} {i : ℕ} (s : Blocks w m n p q e z v i) where
+  -- the next row of blocks lies within the m rows of blocks
+  pub blocks-inside : i < m → z + p * (n * q) ≤ m * p * (n * q)
+  blocks-inside h = omega (arith, s .rows .place, add-mul (i * p) p (n * q), mul-le-mul-right (n * q) (row-end i m p h))
+
+  pub blocks-turn : {v′ : List Float} → i < m → v′ ≡ put v z (grid p (n * q) (blockRow q e i)) → Blocks w m n p q e (z + p * (n * q)) v′ (i + 1)
+  blocks-turn {v′} h t = record {
+    within = omega arith;
+    rows =
+        rw more-rows
+        (filled-rows (s .rows) p (row-end i m p h)
+        (t ∙ ap (put v z) (grid-cong p (n * q) (blockRow q e i) (λ k. allRows e p q (i * p + k))
+        (λ k c hk hc. ap₂ (λ (x y : ℕ). blockRow q e x y c) (sym (digits-div i hk)) (sym (digits-mod i hk))))));
+  }
+
+  pub blocks-end : m ≤ i → length w ≡ m * p * (n * q) → v ≡ grid (m * p) (n * q) (allRows e p q)
+  blocks-end h l =
+      filled-end (s .rows) (mul-le-mul-right p h)
+      ∙ put-all w (grid (m * p) (n * q) (allRows e p q)) (length-grid (m * p) (n * q) (allRows e p q) ∙ sym l)

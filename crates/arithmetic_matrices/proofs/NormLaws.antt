@@ -7,7 +7,7 @@ use mathlib.Core.List.{List}
 use mathlib.Core.Bool.{false}
 use lib.ListN.{getD}
 use lib.Dec.{T}
-use lib.Ieee.{Float, Format, nan, add, lt, fits, ofBits}
+use lib.Ieee.{Float, Format, nan, lt, fits, ofBits}
 use lib.Ieee.Fits.{cond-fits}
 use Rattle.arithmetic_floats.specs.Float.{magnitude, larger}
 use Rattle.arithmetic_floats.proofs.Constants.{+zero-bits}
@@ -17,17 +17,9 @@ use Rattle.arithmetic_matrices.specs.Product.{dot, sum, minusIdentityEnt
 use Rattle.arithmetic_matrices.specs.Norm.{sumOfMagnitudes, largest, norm1, sumOfSquares, trace}
 use Rattle.arithmetic_matrices.proofs.MatrixLaws.{getD-tab, at-grid}
 use Rattle.arithmetic_matrices.proofs.PartLaws.{at-part}
-use Rattle.arithmetic_matrices.proofs.ProductLaws.{sum-none, sum-more, sum-fits, sum-cong, dot-cong, minusIdentityM-part}
+use Rattle.arithmetic_matrices.proofs.ProductLaws.{sum-fits, sum-cong, dot-cong, minusIdentityM-part}
 
 -- ---- sums of magnitudes
-
-pub magnitudes-none : (f : Format) (g : ℕ → Float) → ofBits f 0 ≡ sumOfMagnitudes f 0 g
-unfolding sumOfMagnitudes
-magnitudes-none f g = sum-none f (λ i. magnitude (g i))
-
-pub magnitudes-more : (f : Format) (k : ℕ) (g : ℕ → Float) → sumOfMagnitudes f (k + 1) g ≡ add f (sumOfMagnitudes f k g) (magnitude (g k))
-unfolding sumOfMagnitudes
-magnitudes-more f k g = sum-more f k _
 
 pub magnitudes-cong : (f : Format) (k : ℕ) (g h : ℕ → Float) → ((i : ℕ) → i < k → g i ≡ h i) → sumOfMagnitudes f k g ≡ sumOfMagnitudes f k h
 unfolding sumOfMagnitudes

@@ -110,13 +110,6 @@ part-put w o xs k e b =
 pub apart-within : (x k y m x′ k′ y′ m′ : ℕ) → Apart x k y m → x ≤ x′ → x′ + k′ ≤ x + k → y ≤ y′ → y′ + m′ ≤ y + m → Apart x′ k′ y′ m′
 apart-within x k y m x′ k′ y′ m′ h p q r s = ⊎-elim (λ e. inl (omega arith)) (λ e. inr (omega arith)) h
 
--- an entrywise change of what lies at x: entry k is read before it is written
-pub put-map-more : (w : List Float) (o k : ℕ) (g : Float → Float) → let F : ℕ → Float = λ i. g (getD w (o + i) nan) in set (put w o (tab k F)) (o + k) (g (getD (put w o (tab k F)) (o + k) nan)) ≡ put w o (tab (k + 1) F)
-put-map-more w o k g =
-    let F : ℕ → Float = λ i. g (getD w (o + i) nan) in
-    ap (λ (v : Float). set (put w o (tab k F)) (o + k) (g v)) (getD-put-after w o (tab k F) (o + k) nan (omega (arith, length-tab k F)))
-    ∙ put-tab-more w o k F
-
 -- a store of one more entry, whatever the code computes it from
 pub put-store : (w : List Float) (o k : ℕ) (F : ℕ → Float) (v : Float) → v ≡ F k → set (put w o (tab k F)) (o + k) v ≡ put w o (tab (k + 1) F)
 put-store w o k F v e = ap (set (put w o (tab k F)) (o + k)) e ∙ put-tab-more w o k F
@@ -128,18 +121,7 @@ read-apart w y k F x m h b = getD-put-apart w y m (tab k F) x m k nan h (omega (
 pub read-next : (w : List Float) (y k : ℕ) (F : ℕ → Float) → getD (put w y (tab k F)) (y + k) nan ≡ getD w (y + k) nan
 read-next w y k F = getD-put-after w y (tab k F) (y + k) nan (omega (arith, length-tab k F))
 
--- an entrywise change of what lies at y by what lies apart from it at x: both entries k are read before one is written
-pub put-zip-more : (w : List Float) (y x k m : ℕ) (g : Float → Float → Float) → Apart x m y m → k < m
-    → let F : ℕ → Float = λ i. g (getD w (y + i) nan) (getD w (x + i) nan) in
-    let u : List Float = put w y (tab k F) in set u (y + k) (g (getD u (y + k) nan) (getD u (x + k) nan)) ≡ put w y (tab (k + 1) F)
-put-zip-more w y x k m g h b =
-    let F : ℕ → Float = λ i. g (getD w (y + i) nan) (getD w (x + i) nan) in
-    put-store w y k F _ (λ i. g (read-next w y k F i) (read-apart w y k F x m h b i))
-
--- a table over the numbers of a part, and over those of two parts
-pub tab-part : (w : List Float) (x m : ℕ) (g : Float → Float) → tab m (λ k. g (getD (part w x m) k nan)) ≡ tab m (λ k. g (getD w (x + k) nan))
-tab-part w x m g = tab-cong m _ _ (λ k h. ap g (getD-part w x m k h))
-
+-- a table over the numbers of two parts
 pub tab-parts : (w : List Float) (x y m : ℕ) (g : Float → Float → Float) → tab m (λ k. g (getD (part w x m) k nan) (getD (part w y m) k nan)) ≡ tab m (λ k. g (getD w (x + k) nan) (getD w (y + k) nan))
 tab-parts w x y m g = tab-cong m _ _ (λ k h i. g (getD-part w x m k h i) (getD-part w y m k h i))
 

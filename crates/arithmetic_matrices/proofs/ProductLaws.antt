@@ -8,17 +8,17 @@ use mathlib.Core.List.{List, _∷_, _++_}
 use mathlib.Core.Bool.{Bool, true, false, cond}
 use lib.Dec.{T, eqb}
 use lib.ListN.{length, getD, set}
-use lib.Ieee.{Float, nan, inf, fin, Format, unlike, up, down, round, add, sub, mul, div, fits, ofBits}
+use lib.Ieee.{Float, nan, inf, fin, Format, unlike, up, down, round, add, sub, mul, fits, ofBits}
 use lib.Ieee.Fits.{add-fits}
 use borrow.Author.Tests.{eq-eqb, ne-eqb}
-use Rattle.arithmetic_floats.specs.Float.{one, half}
+use Rattle.arithmetic_floats.specs.Float.{one}
 use Rattle.arithmetic_floats.proofs.Constants.{+zero-bits}
 use Rattle.arithmetic_floats.proofs.Zero.{zero-fits}
 use Rattle.arithmetic_matrices.specs.Matrix.{tab, grid, at, part, put, Apart, item}
 use Rattle.arithmetic_matrices.specs.Product.{sum, dot, mulM, timesM, addMultipleM, deductM, zeroM, addM, subM, meanM, differenceQuotientM, diagonalM, identityM, minusIdentityEntry, minusIdentityM, transposeM, squared}
 use Rattle.arithmetic_matrices.specs.Kernels.{rowDot}
 use Rattle.arithmetic_matrices.proofs.MatrixLaws.{tab-cong, length-tab, length-grid, grid-cong, row-end, index-lt, getD-tab}
-use Rattle.arithmetic_matrices.proofs.PartLaws.{at-part, length-put, put-append, put-store, getD-put-after, getD-put-apart, put-grid-more, apart-within, tab-part, tab-parts, set-put}
+use Rattle.arithmetic_matrices.proofs.PartLaws.{at-part, length-put, put-append, put-store, getD-put-after, getD-put-apart, put-grid-more, apart-within, tab-parts, set-put}
 
 -- ---- sums
 
@@ -134,7 +134,7 @@ pub length-mulM : (f : Format) (n : ℕ) (a b : List Float) → length (mulM f n
 unfolding mulM
 length-mulM f n a b = length-grid n n _
 
--- ---- multiples, sums and means of matrices that lie in one list
+-- ---- products of two numbers, differences of matrices that lie in one list
 
 unlike-comm : (s t : Bool) → unlike s t ≡ unlike t s
 unlike-comm false false = refl
@@ -155,33 +155,9 @@ product-comm f (fin s m e) nan = refl
 product-comm f (fin s m e) (inf t) = ap (λ (b : Bool). cond (eqb m 0) nan (inf b)) (unlike-comm s t)
 product-comm f (fin s m e) (fin t n d) = λ i. round f (unlike-comm s t i) (mul-comm (m * up e) (n * up d) i) (mul-comm (down e) (down d) i)
 
-pub timesM-part : (f : Format) (n : ℕ) (by : Float) (w : List Float) (x : ℕ) → timesM f n by (part w x (n * n)) ≡ tab (n * n) (λ k. mul f (getD w (x + k) nan) by)
-unfolding timesM
-timesM-part f n by w x = tab-part w x (n * n) (λ v. mul f v by)
-
-pub addMultipleM-parts : (f : Format) (n : ℕ) (by : Float) (w : List Float) (x y : ℕ) → addMultipleM f n by (part w x (n * n)) (part w y (n * n)) ≡ tab (n * n) (λ k. add f (item w (y + k)) (mul f (item w (x + k)) by))
-unfolding addMultipleM
-addMultipleM-parts f n by w x y = tab-parts w y x (n * n) (λ u v. add f u (mul f v by))
-
-pub deductM-parts : (f : Format) (n : ℕ) (by : Float) (w : List Float) (x y : ℕ) → deductM f n by (part w x (n * n)) (part w y (n * n)) ≡ tab (n * n) (λ k. sub f (item w (y + k)) (mul f (item w (x + k)) by))
-unfolding deductM
-deductM-parts f n by w x y = tab-parts w y x (n * n) (λ u v. sub f u (mul f v by))
-
-pub addM-parts : (f : Format) (n : ℕ) (w : List Float) (x y : ℕ) → addM f n (part w x (n * n)) (part w y (n * n)) ≡ tab (n * n) (λ k. add f (item w (x + k)) (item w (y + k)))
-unfolding addM
-addM-parts f n w x y = tab-parts w x y (n * n) (add f)
-
 pub subM-parts : (f : Format) (n : ℕ) (w : List Float) (x y : ℕ) → subM f n (part w x (n * n)) (part w y (n * n)) ≡ tab (n * n) (λ k. sub f (item w (x + k)) (item w (y + k)))
 unfolding subM
 subM-parts f n w x y = tab-parts w x y (n * n) (sub f)
-
-pub meanM-parts : (f : Format) (n : ℕ) (w : List Float) (x y : ℕ) → meanM f n (part w x (n * n)) (part w y (n * n)) ≡ tab (n * n) (λ k. mul f (add f (item w (x + k)) (item w (y + k))) half)
-unfolding meanM
-meanM-parts f n w x y = tab-parts w x y (n * n) (λ u v. mul f (add f u v) half)
-
-pub differenceQuotientM-parts : (f : Format) (n : ℕ) (h : Float) (w : List Float) (x y : ℕ) → differenceQuotientM f n h (part w x (n * n)) (part w y (n * n)) ≡ tab (n * n) (λ k. div f (sub f (item w (x + k)) (item w (y + k))) h)
-unfolding differenceQuotientM
-differenceQuotientM-parts f n h w x y = tab-parts w x y (n * n) (λ u v. div f (sub f u v) h)
 
 -- ---- the identity taken from a matrix
 
@@ -213,23 +189,6 @@ minusIdentity-row f n w x i h l =
 
     rest : (j : ℕ) → j < n → (i ≡ j → ⊥) → item u (x + i * n + j) ≡ G i j
     rest j b q = rw (add-assoc x (i * n) j, kept j, ne-eqb i j q)
-
--- ---- the transpose
-
-pub transposeM-part : (n : ℕ) (w : List Float) (x : ℕ) → transposeM n (part w x (n * n)) ≡ grid n n (λ i j. item w (x + (j * n + i)))
-unfolding transposeM
-transposeM-part n w x = grid-cong n n _ _ (λ i j hi hj. at-part w x n n j i hj hi)
-
--- row i of a transpose, written after the i rows before it, which it does not read
-pub transposeM-row : (n : ℕ) (w : List Float) (x y i : ℕ) → i < n → Apart x (n * n) y (n * n)
-    → let G : ℕ → ℕ → Float = λ r j. item w (x + (j * n + r)) in
-    let u : List Float = put w y (grid i n G) in put u (y + i * n) (tab n (λ j. item u (x + (j * n + i)))) ≡ put w y (grid (i + 1) n G)
-transposeM-row n w x y i hi ha =
-    let G : ℕ → ℕ → Float = λ r j. item w (x + (j * n + r)) in
-    let u : List Float = put w y (grid i n G) in
-    let r : i * n + n ≤ n * n = row-end i n n hi in
-    ap (put u (y + i * n)) (tab-cong n _ (G i) (λ j hj. getD-put-apart w y (n * n) (grid i n G) x (n * n) (j * n + i) nan ha (omega (arith, length-grid i n G)) (index-lt hj hi)))
-    ∙ put-grid-more w y i n G
 
 -- ---- lengths
 

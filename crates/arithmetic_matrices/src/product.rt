@@ -1,7 +1,7 @@
 // Products of matrices of order n that stand in slices.
 ghost use mathlib.Core.Path.{_≡_};
 ghost use Prim.Native.Nat.{_+_, _*_, _<_, _≤_};
-ghost use lib.ListN.{length};
+ghost use lib.ListN.{length, set};
 ghost use lib.Ieee.{binary64};
 ghost use Rattle.arithmetic_matrices.specs.Matrix.{tab, part, put, Apart};
 ghost use Rattle.arithmetic_matrices.specs.Kernels.{rowDot};
@@ -22,6 +22,17 @@ pub fn row_dot(a: &[f64], x: usize, b: &[f64], y: usize, j: usize, n: usize) -> 
         k += 1;
     }
     sum
+}
+
+// Stores four numbers from z on.
+fn store_four(w: &mut [f64], z: usize, s0: f64, s1: f64, s2: f64, s3: f64)
+    requires { ⌜ z + 4 ≤ length (now w) ⌝ }
+    ensures { λ _. ⌜ now (w .exit) ≡ set (set (set (set (now (w .entry)) z s0) (z + 1) s1) (z + 2) s2) (z + 3) s3 ⌝ }
+{
+    w[z] = s0;
+    w[z + 1] = s1;
+    w[z + 2] = s2;
+    w[z + 3] = s3;
 }
 
 // Writes to y + j and on the row at x times the four columns from j on of the n by n matrix at b.
@@ -45,21 +56,81 @@ fn mult_four(w: &mut [f64], x: usize, b: usize, y: usize, j: usize, n: usize)
         k += 1;
     }
     let z = y + j;
-    w[z] = s0;
-    w[z + 1] = s1;
-    w[z + 2] = s2;
-    w[z + 3] = s3;
+    store_four(w, z, s0, s1, s2, s3);
 }
 
-// Writes to y + j and on the row at x times the next columns, from j on, of the n by n matrix at b: four of them, or one where fewer than four are left.
-// Returns how many.
+// The same for the eight columns from j on.
+fn mult_eight(w: &mut [f64], x: usize, b: usize, y: usize, j: usize, n: usize)
+    requires { ⌜ (n ≤ 16) × (j + 8 ≤ n) × (x + n ≤ length (now w)) × (b + n * n ≤ length (now w)) × (y + n ≤ length (now w)) ⌝ }
+    ensures { λ _. ⌜ now (w .exit) ≡ put (now (w .entry)) (y + j) (tab 8 (λ t. rowDot binary64 n (now (w .entry)) x (now (w .entry)) b (j + t))) ⌝ }
+{
+    let mut s0 = 0.0;
+    let mut s1 = 0.0;
+    let mut s2 = 0.0;
+    let mut s3 = 0.0;
+    let mut s4 = 0.0;
+    let mut s5 = 0.0;
+    let mut s6 = 0.0;
+    let mut s7 = 0.0;
+    let mut q = b + j;
+    let mut k = 0;
+    while k < n {
+        let v = w[x + k];
+        s0 = s0 + v * w[q];
+        s1 = s1 + v * w[q + 1];
+        s2 = s2 + v * w[q + 2];
+        s3 = s3 + v * w[q + 3];
+        let r = q + 4;
+        s4 = s4 + v * w[r];
+        s5 = s5 + v * w[r + 1];
+        s6 = s6 + v * w[r + 2];
+        s7 = s7 + v * w[r + 3];
+        q += n;
+        k += 1;
+    }
+    let z = y + j;
+    store_four(w, z, s0, s1, s2, s3);
+    store_four(w, z + 4, s4, s5, s6, s7);
+}
+
+// The same for the two columns from j on.
+fn mult_two(w: &mut [f64], x: usize, b: usize, y: usize, j: usize, n: usize)
+    requires { ⌜ (n ≤ 16) × (j + 2 ≤ n) × (x + n ≤ length (now w)) × (b + n * n ≤ length (now w)) × (y + n ≤ length (now w)) ⌝ }
+    ensures { λ _. ⌜ now (w .exit) ≡ put (now (w .entry)) (y + j) (tab 2 (λ t. rowDot binary64 n (now (w .entry)) x (now (w .entry)) b (j + t))) ⌝ }
+{
+    let mut s0 = 0.0;
+    let mut s1 = 0.0;
+    let mut q = b + j;
+    let mut k = 0;
+    while k < n {
+        let v = w[x + k];
+        s0 = s0 + v * w[q];
+        s1 = s1 + v * w[q + 1];
+        q += n;
+        k += 1;
+    }
+    let z = y + j;
+    w[z] = s0;
+    w[z + 1] = s1;
+}
+
+// Writes to y + j and on the row at x times the next columns, from j on, of the n by n matrix at b: eight of them, or four, two or one where
+// fewer are left. Returns how many.
 fn mult_next(w: &mut [f64], x: usize, b: usize, y: usize, j: usize, n: usize) -> usize
     requires { ⌜ (n ≤ 16) × (j < n) × (x + n ≤ length (now w)) × (b + n * n ≤ length (now w)) × (y + n ≤ length (now w)) ⌝ }
     ensures { λ m. ⌜ (1 ≤ m) × (j + m ≤ n) × (now (w .exit) ≡ put (now (w .entry)) (y + j) (tab m (λ t. rowDot binary64 n (now (w .entry)) x (now (w .entry)) b (j + t)))) ⌝ }
 {
+    if j + 8 <= n {
+        mult_eight(w, x, b, y, j, n);
+        return 8;
+    }
     if j + 4 <= n {
         mult_four(w, x, b, y, j, n);
         return 4;
+    }
+    if j + 2 <= n {
+        mult_two(w, x, b, y, j, n);
+        return 2;
     }
     w[y + j] = row_dot(w, x, w, b, j, n);
     1

@@ -4,15 +4,17 @@ use mathlib.Core.Path.{_≡_, refl, ap, sym, _∙_}
 use mathlib.Core.Bool.{Bool, true, false, false≢true, cond, _&&_}
 use mathlib.Core.List.{List, [], _∷_, _++_, map}
 use mathlib.Core.Option.{Option, none, some}
-use native.Mathlib.Nat.{zero-add, mul-le-mul}
+use native.Mathlib.Nat.{zero-add, zero-mul, mul-le-mul}
 use native.Mathlib.Omega.{arith}
 use lib.Arith.{digits-div, digits-mod}
 use lib.Dec.{T, ltb, eqb}
 use lib.ListN.{length}
+use borrow.Author.Count.{below-more}
 use borrow.Author.Tests.{leb-true, ltb-true, eqb-true}
 use lib.Ieee.{Float}
 use lib.Ieee.Scale.{finite}
 use Rattle.arithmetic_matrices.specs.Matrix.{item}
+use Rattle.arithmetic_matrices.proofs.MatrixLaws.{index-lt, more-rows}
 use Rattle.arithmetic_questions.specs.Result.{Found, refused, done, _>>=_, passes, ask, firstNo}
 use Rattle.arithmetic_questions.specs.Questions.{Call, unary, powered, binary, Companion, withoutCompanion, direction, Exponent, withoutExponent, Domain, anywhere, Orders, everyOrder, Profile, atMost, exactly, outputLength, atLeast8192, firstNonfinite, placed, allFinite, exponentQuestion, domainQuestion, orderQuestion, shapeQuestions, numberQuestions, asked, coded}
 use Rattle.arithmetic_questions.specs.Answers.{numbered, scanned, found}
@@ -20,6 +22,7 @@ use Rattle.arithmetic_questions.specs.declared.answer.Refusal.{Refusal}
 use Rattle.arithmetic_questions.specs.declared.answer.Refusal.the-variants.{EmptyMatrix, NotSquare, CompanionShape, TooLarge, WrongLength, EntryNotFinite, DirectionNotFinite, ExponentNotFinite, PivotOutOfRange, NotDefined, OrderOne, NormNotFinite, NotConverged, SingularColumn}
 use Rattle.arithmetic_questions.specs.declared.answer.Question.{Question}
 use Rattle.arithmetic_questions.specs.declared.answer.Question.the-variants.{Passed, No}
+use Rattle.arithmetic_questions.specs.declared.question.Scan.{Scan}
 use Rattle.arithmetic_questions.specs.declared.question.Scan.the-variants.{AllFinite, At}
 
 -- ---- one question after another
@@ -167,16 +170,54 @@ firstNonfinite-none q [] p = refl
 firstNonfinite-none q (x ∷ l) p = rw (p 0 (omega arith)) (firstNonfinite-none (suc q) l (λ i hi. p (suc i) (omega arith)))
 
 module _ (columns : ℕ) (a : List Float) where
-  pub scanned-at :
+  scanned-at :
       (i j : ℕ) → j < columns → i * columns + j < length a → ((k : ℕ) → k < i * columns + j → finite (item a k) ≡ true)
       → finite (item a (i * columns + j)) ≡ false → (number : ℕ) → scanned number (At i j) ≡ allFinite number columns a
   unfolding allFinite placed
   scanned-at i j hj h p e number =
       rw (firstNonfinite-at 0 a (i * columns + j) h p e, zero-add, digits-div i {m = columns} {r = j} hj, digits-mod i {m = columns} {r = j} hj)
 
-  pub scanned-none : ((k : ℕ) → k < length a → finite (item a k) ≡ true) → (number : ℕ) → scanned number AllFinite ≡ allFinite number columns a
+  scanned-none : ((k : ℕ) → k < length a → finite (item a k) ≡ true) → (number : ℕ) → scanned number AllFinite ≡ allFinite number columns a
   unfolding allFinite placed
   scanned-none p number = rw (firstNonfinite-none 0 a p)
+
+-- all entries of a, of rows by columns, that stand before entry (i, j) are finite, and the answer is still that all are
+pub record FiniteBefore (a : List Float) (rows columns : ℕ) (answer : Scan) (i j : ℕ) : Type 0 where
+  pub size : length a ≡ rows * columns
+  pub row : i ≤ rows
+  pub column : j ≤ columns
+  pub outcome : answer ≡ AllFinite
+  pub before : (k : ℕ) → k < i * columns + j → finite (item a k) ≡ true
+
+pub finite-start : {a : List Float} {rows columns : ℕ} → length a ≡ rows * columns → FiniteBefore a rows columns AllFinite 0 0
+finite-start {columns = columns} e = record { size = e; row = omega arith; column = omega arith; outcome = refl; before = λ k h. absurd (omega (arith, zero-mul columns)) }
+
+module _ {a : List Float} {rows columns : ℕ} {answer : Scan} {i j : ℕ} (s : FiniteBefore a rows columns answer i j) where
+  -- the last row is done
+  pub finite-end : rows ≤ i → (number : ℕ) → scanned number answer ≡ allFinite number columns a
+  finite-end h number =
+      let e : i ≡ rows = omega arith in
+      rw (s .outcome) (scanned-none columns a (λ k l. s .before k (rw e (omega arith))) number)
+
+  -- a row is done
+  pub finite-row : i < rows → columns ≤ j → FiniteBefore a rows columns answer (i + 1) 0
+  finite-row r h = record { size = s .size; row = omega arith; column = omega arith; outcome = s .outcome; before = λ k l. s .before k (omega (arith, more-rows i columns)) }
+
+  -- entry (i, j) lies in a; it is finite, or the scan ends with it
+  pub finite-inside : i < rows → j < columns → i * columns + j < length a
+  finite-inside r h = omega (arith, index-lt r h)
+
+  pub finite-turn : j < columns → finite (item a (i * columns + j)) ≡ true → FiniteBefore a rows columns answer i (j + 1)
+  finite-turn h e = record {
+    size = s .size;
+    row = s .row;
+    column = omega arith;
+    outcome = s .outcome;
+    before = λ k l. below-more (λ (q : ℕ). finite (item a q) ≡ true) (i * columns + j) (s .before) e k (omega arith);
+  }
+
+  pub finite-at : i < rows → j < columns → finite (item a (i * columns + j)) ≡ false → (number : ℕ) → scanned number (At i j) ≡ allFinite number columns a
+  finite-at r h e = scanned-at columns a i j h (finite-inside r h) (s .before) e
 
 -- no entry is found: each is finite
 found-none : (b : Bool) (o : Option ℕ) (q : ℕ) → cond b o (some q) ≡ none → T b × (o ≡ none)

@@ -2,16 +2,17 @@
 use mathlib.Core.Path.{_≡_, refl, sym, ap, _∙_, subst}
 use mathlib.Core.List.{List, [], _∷_}
 use mathlib.Core.Bool.{Bool}
-use Prim.Native.Nat.{ℕ, zero, suc, _+_, _-_, _*_}
+use Prim.Native.Nat.{ℕ, zero, suc, _+_, _-_, _*_, _≤_, _<_}
 use native.Mathlib.Numerals.{add-one}
 use native.Mathlib.Omega.{arith}
 use lib.Dec.{lit<}
 use lib.ListN.{length, take, drop}
-use lib.Ieee.{Float, Format, add, mul}
+use lib.Ieee.{Float, Format, add, mul, ofBits, emax, hid}
 use borrow.Author.Tests.{eq-eqb, ne-eqb}
 use Rattle.lu_factoring.specs.declared.LuOutcome.{LuOutcome}
 use Rattle.lu_factoring.specs.declared.LuOutcome.the-variants.{Factored, Singular}
 use Rattle.arithmetic_floats.specs.Float.{+zero, inversePowerOfTwo}
+use Rattle.arithmetic_floats.proofs.Constants.{one-bits}
 use Rattle.arithmetic_matrices.specs.Matrix.{at, item, part}
 use Rattle.arithmetic_matrices.specs.Product.{zeroM, dot, addMultipleM, identityM, timesM, squared, mulM}
 use Rattle.arithmetic_matrices.specs.Workspace.{Room, slot, store, member, Only}
@@ -39,7 +40,7 @@ use Rattle.functions_exponential.specs.Kernels.{nextPower, Raised, Summe
 
 -- ---- one term more
 
-pub coefficient-more : (f : Format) (k : ℕ) → coefficient f (k + 1) ≡ nextCoefficient f k (coefficient f k)
+coefficient-more : (f : Format) (k : ℕ) → coefficient f (k + 1) ≡ nextCoefficient f k (coefficient f k)
 unfolding coefficient
 coefficient-more f k = rw add-one refl
 
@@ -76,6 +77,13 @@ sums f n a k = (0, held n a) ∷ (1, held n (power f n a k)) ∷ (2, held n (com
 
 abbrev pub summing : ℕ → Bool
 summing = member (1 ∷ 2 ∷ 3 ∷ 4 ∷ [])
+
+-- the terms before k are added, and c is coefficient k
+pub record PadeTerms (f : Format) (n : ℕ) (w₀ w : List Float) (c : Float) (k : ℕ) : Type 0 where
+  pub within : k ≤ 14
+  pub room : Room n w₀
+  pub next : c ≡ coefficient f k
+  pub state : State summing w₀ w (listed (sums f n (slot n w₀ 0) k))
 
 -- the slots of the whole run
 abbrev all : ℕ → Bool
@@ -120,7 +128,7 @@ module _ (f : Format) (n : ℕ) (w₀ : List Float) (r : Room n w₀) where
       let s3 = step-zero n (r .order) 3 s2 e3 refl refl in
       state-listed (sums f n a 0) s3 (s3 .holds 0, (s3 .holds 1, (holds-as (s3 .holds 2) (combination-none f n (coefficient f) a), (holds-as (s3 .holds 3) (combination-none f n (flipped f) a), tt))))
 
-  pub sums-more : (a : List Float) (k : ℕ) (w w1 w2 w3 : List Float) (c d : Float) → State summing w₀ w (listed (sums f n a k)) → c ≡ coefficient f k → d ≡ flip k c
+  sums-more : (a : List Float) (k : ℕ) (w w1 w2 w3 : List Float) (c d : Float) → State summing w₀ w (listed (sums f n a k)) → c ≡ coefficient f k → d ≡ flip k c
       → w1 ≡ store w 2 (addMultipleM f n c (slot n w 1) (slot n w 2)) → w2 ≡ store w1 3 (addMultipleM f n d (slot n w1 1) (slot n w1 3)) → Raised f n k w2 w3 → State summing w₀ w3 (listed (sums f n a (k + 1)))
   sums-more a k w w1 w2 w3 c d H ec ed e1 e2 R =
       let s1 = step-accumulate n (r .order) f c 2 1 H e1 refl refl refl refl in
@@ -133,7 +141,7 @@ module _ (f : Format) (n : ℕ) (w₀ : List Float) (r : Room n w₀) where
       let h3 = holds-as (s3 .holds 3) (ap (λ (x : Float). addMultipleM f n x (power f n a k) (combinationTo f n (flipped f) a k)) ef ∙ combination-more f n (flipped f) a k) in
       state-listed (sums f n a (k + 1)) s3 (s3 .holds 0, (h1, (h2, (h3, tt))))
 
-  pub sums-all : (w : List Float) → State summing w₀ w (listed (sums f n (slot n w₀ 0) 14)) → Summed f n w₀ w
+  sums-all : (w : List Float) → State summing w₀ w (listed (sums f n (slot n w₀ 0) 14)) → Summed f n w₀ w
   sums-all w H = record {
     above = unfold numerator combination in held-at 2 n H refl;
     under = unfold denominator combination in held-at 3 n H refl;
@@ -141,7 +149,7 @@ module _ (f : Format) (n : ℕ) (w₀ : List Float) (r : Room n w₀) where
   }
 
   -- the sums begin at w, and end at w′
-  pub sums-begin : (w : List Float) → State summing w₀ w (listed (sums f n (slot n w₀ 0) 0)) → State summing w w (listed (sums f n (slot n w 0) 0))
+  sums-begin : (w : List Float) → State summing w₀ w (listed (sums f n (slot n w₀ 0) 0)) → State summing w w (listed (sums f n (slot n w 0) 0))
   sums-begin w H =
       subst (λ (a : List Float). State summing w w (listed (sums f n a 0))) (sym (held-at 0 n H refl)) (record { space = H .space; only = only-refl summing w; holds = H .holds })
 
@@ -151,6 +159,10 @@ module _ (f : Format) (n : ℕ) (w₀ : List Float) (r : Room n w₀) where
     under = S .under ∙ ap (denominator f n) (held-at 0 n H refl);
     only = only-trans (H .only) (S .only);
   }
+
+  pub terms-start : (w : List Float) → State summing w₀ w (listed (sums f n (slot n w₀ 0) 0)) → PadeTerms f n w w (ofBits f (emax f * hid f)) 0
+  unfolding coefficient
+  terms-start w H = record { within = omega arith; room = record { order = r .order; space = H .space }; next = one-bits f; state = sums-begin w H }
 
   -- ---- the quotient, or the numerator in its place
 
@@ -205,3 +217,18 @@ module _ (ss : List ℕ) (n : ℕ) (g : ℕ → List Float) (x : Float) (o : Out
   pub halved-done : (s : ℕ) (w′ : List Float) → o ≡ Done s → slot n w′ 0 ≡ g s → Only (member ss) w w′ → Replaced ss n (halvingsFor x >>= λ s. done s (g s)) (Done s) w w′
   unfolding outcome exit
   halved-done s w′ e r k = rw (halvings-set x g s (sym H ∙ ap reported e)) (record { outcome = refl; result = r; only = k })
+
+-- ---- a term of the sums, and the last
+
+pub terms-turn : {f : Format} {n : ℕ} {w₀ w w1 w2 w3 : List Float} {c c′ d : Float} {k : ℕ} → PadeTerms f n w₀ w c k → k < 14 → d ≡ flip k c
+    → w1 ≡ store w 2 (addMultipleM f n c (slot n w 1) (slot n w 2)) → w2 ≡ store w1 3 (addMultipleM f n d (slot n w1 1) (slot n w1 3)) → Raised f n k w2 w3 → c′ ≡ nextCoefficient f k c
+    → PadeTerms f n w₀ w3 c′ (k + 1)
+terms-turn {f} {n} {w₀} {w} {w1} {w2} {w3} {c} {c′} {d} {k} s h ed e1 e2 R e = record {
+  within = omega arith;
+  room = s .room;
+  next = e ∙ ap (nextCoefficient f k) (s .next) ∙ sym (coefficient-more f k);
+  state = sums-more f n w₀ (s .room) (slot n w₀ 0) k w w1 w2 w3 c d (s .state) (s .next) ed e1 e2 R;
+}
+
+pub terms-end : {f : Format} {n : ℕ} {w₀ w : List Float} {c : Float} {k : ℕ} → PadeTerms f n w₀ w c k → 14 ≤ k → Summed f n w₀ w
+terms-end {f} {n} {w₀} {w} {k = k} s h = let e : k ≡ 14 = omega (arith, s .within) in sums-all f n w₀ (s .room) w (rw e at (s .state))

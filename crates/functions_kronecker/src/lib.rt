@@ -1,6 +1,6 @@
 // The Kronecker product and the Kronecker sum of two matrices, written block by block: block (i, j) is formed from entry (i, j) of the first matrix.
 // Last the two calls, which ask their questions first.
-mod question;
+pub mod question;
 
 ghost use mathlib.Core.Path.{_≡_};
 ghost use Prim.Native.Nat.{_+_, _*_, _<_, _≤_};

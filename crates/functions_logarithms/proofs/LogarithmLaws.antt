@@ -74,52 +74,55 @@ module _ (f : Format) (n : ℕ) (w₀ : List Float) (r : Room n w₀) where
 
 -- k roots are taken, and the rooting goes on
 pub record Rooting (f : Format) (n : ℕ) (w₀ w : List Float) (k : ℕ) : Type 0 where
+  pub within : k ≤ rootLimit
   pub state : rooting f n (slot n w₀ 0) k ≡ running (rootedAs (slot n w 0) k)
   pub only : Only (member used) w₀ w
 
-pub rooting-none : (f : Format) (n : ℕ) (w₀ : List Float) → Rooting f n w₀ w₀ 0
+pub rooting-start : {f : Format} {n : ℕ} {w₀ : List Float} → Rooting f n w₀ w₀ 0
 unfolding rooting after
-rooting-none f n w₀ = record { state = refl; only = only-refl (member used) w₀ }
+rooting-start {w₀ = w₀} = record { within = omega arith; state = refl; only = only-refl (member used) w₀ }
 
-module _ (f : Format) (n : ℕ) (w₀ w w′ : List Float) (k : ℕ) (p : Pass) (H : Rooting f n w₀ w k) (P : RootingPass f n p w w′) where
-  told : (q : Pass) → p ≡ q → rootingStep f n (rootedAs (slot n w 0) k) ≡ asRooting q (slot n w′ 0) k
-  told q e = sym (P .step k) ∙ ap (λ (z : Pass). asRooting z (slot n w′ 0) k) e
+module _ {f : Format} {n : ℕ} {w₀ w : List Float} {k : ℕ} (H : Rooting f n w₀ w k) where
+  module _ {w′ : List Float} {p : Pass} (h : k < rootLimit) (P : RootingPass f n p w w′) where
+    told : (q : Pass) → p ≡ q → rootingStep f n (rootedAs (slot n w 0) k) ≡ asRooting q (slot n w′ 0) k
+    told q e = sym (P .step k) ∙ ap (λ (z : Pass). asRooting z (slot n w′ 0) k) e
 
-  changed : Only (member used) w₀ w′
-  changed = only-trans (H .only) (P .only)
+    changed : Only (member used) w₀ w′
+    changed = only-trans (H .only) (P .only)
 
-  pub rooting-more : p ≡ Running → Rooting f n w₀ w′ (k + 1)
+    pub rooting-more : p ≡ Running → Rooting f n w₀ w′ (k + 1)
+    unfolding rooting
+    rooting-more e = record {
+      within = omega arith;
+      state =
+          goes-on (λ _. rootingStep f n) (rootedAs (slot n w₀ 0) 0) (rootedAs (slot n w 0) k) k (H .state) (rootedAs (slot n w′ 0) (suc k)) (told Running e)
+          ∙ ap (λ (m : ℕ). running (rootedAs (slot n w′ 0) m)) (sym (add-one k));
+      only = changed;
+    }
+
+    pub rooting-stops : p ≡ Stopped → RootsTaken f n (Taken k) w₀ w′
+    unfolding rooting
+    rooting-stops e = record {
+      taken = sym (ap ended (stops (λ _. rootingStep f n) (rootedAs (slot n w₀ 0) 0) (rootedAs (slot n w 0) k) k (H .state) (rootedAs (slot n w′ 0) k) rootLimit h (told Stopped e)));
+      few = omega arith;
+      only = changed;
+    }
+
+    pub rooting-fails : p ≡ Failed → RootsTaken f n Refused w₀ w′
+    unfolding rooting
+    rooting-fails e = record {
+      taken = sym (ap ended (fails (λ _. rootingStep f n) (rootedAs (slot n w₀ 0) 0) (rootedAs (slot n w 0) k) k (H .state) rootLimit h (told Failed e)));
+      few = omega arith;
+      only = changed;
+    }
+
+  pub rooting-out : rootLimit ≤ k → RootsTaken f n (Taken k) w₀ w
   unfolding rooting
-  rooting-more e = record {
-    state =
-        goes-on (λ _. rootingStep f n) (rootedAs (slot n w₀ 0) 0) (rootedAs (slot n w 0) k) k (H .state) (rootedAs (slot n w′ 0) (suc k)) (told Running e)
-        ∙ ap (λ (m : ℕ). running (rootedAs (slot n w′ 0) m)) (sym (add-one k));
-    only = changed;
+  rooting-out l = record {
+    taken = sym (ap ended (runs-out (λ _. rootingStep f n) (rootedAs (slot n w₀ 0) 0) (rootedAs (slot n w 0) k) k (H .state) rootLimit (H .within) l));
+    few = H .within;
+    only = H .only;
   }
-
-  pub rooting-stops : k < rootLimit → p ≡ Stopped → RootsTaken f n (Taken k) w₀ w′
-  unfolding rooting
-  rooting-stops h e = record {
-    taken = sym (ap ended (stops (λ _. rootingStep f n) (rootedAs (slot n w₀ 0) 0) (rootedAs (slot n w 0) k) k (H .state) (rootedAs (slot n w′ 0) k) rootLimit h (told Stopped e)));
-    few = omega arith;
-    only = changed;
-  }
-
-  pub rooting-fails : k < rootLimit → p ≡ Failed → RootsTaken f n Refused w₀ w′
-  unfolding rooting
-  rooting-fails h e = record {
-    taken = sym (ap ended (fails (λ _. rootingStep f n) (rootedAs (slot n w₀ 0) 0) (rootedAs (slot n w 0) k) k (H .state) rootLimit h (told Failed e)));
-    few = omega arith;
-    only = changed;
-  }
-
-pub rooting-out : (f : Format) (n : ℕ) (w₀ w : List Float) (k : ℕ) → Rooting f n w₀ w k → k ≤ rootLimit → rootLimit ≤ k → RootsTaken f n (Taken k) w₀ w
-unfolding rooting
-rooting-out f n w₀ w k H h l = record {
-  taken = sym (ap ended (runs-out (λ _. rootingStep f n) (rootedAs (slot n w₀ 0) 0) (rootedAs (slot n w 0) k) k (H .state) rootLimit h l));
-  few = h;
-  only = H .only;
-}
 
 -- ---- the series
 

@@ -4,7 +4,7 @@ use mathlib.Core.List.{List, [], _∷_}
 use mathlib.Core.Bool.{Bool, true, false, cond}
 use mathlib.Core.Logic.{_⊎_, inl, inr}
 use Prim.Native.Nat.{ℕ, suc, _+_, _-_, _/_, _%_, _^_, _≤_, _<_}
-use native.Mathlib.Nat.{pow-suc, div-div-eq-div-mul, div-eq-of-lt}
+use native.Mathlib.Nat.{div-one, pow-suc, div-div-eq-div-mul, div-eq-of-lt}
 use native.Mathlib.Numerals.{add-one}
 use native.Mathlib.Decide.{le-ind}
 use native.Mathlib.Omega.{arith}
@@ -40,7 +40,7 @@ use Rattle.functions_powers.proofs.SeriesLaws.{slot-kept}
 -- ---- bits
 
 -- what is left of e after i bits, and after one more
-pub rest-more : (e i : ℕ) → e / 2 ^ i / 2 ≡ e / 2 ^ suc i
+rest-more : (e i : ℕ) → e / 2 ^ i / 2 ≡ e / 2 ^ suc i
 rest-more e i = div-div-eq-div-mul e (2 ^ i) 2 ∙ ap (λ (d : ℕ). e / d) (sym (pow-suc 2 i))
 
 -- bits above the exponent's length change nothing
@@ -55,12 +55,18 @@ bits-above f n b e i k h l = le-ind (λ (m : ℕ). (e / 2 ^ m ≡ 0) × (bitPowe
     )
 
 -- so two numbers of bits that reach past the exponent give the same power
-bits-end : (f : Format) (n : ℕ) (b : List Float) (e i k : ℕ) → e / 2 ^ i ≡ 0 → e / 2 ^ k ≡ 0 → bitPower f n b e i ≡ bitPower f n b e k
-bits-end f n b e i k p q = go (split i k)
+same-bits : (f : Format) (n : ℕ) (b : List Float) (e i k : ℕ) → e / 2 ^ i ≡ 0 → e / 2 ^ k ≡ 0 → bitPower f n b e i ≡ bitPower f n b e k
+same-bits f n b e i k p q = go (split i k)
   where
     go : (i < k) ⊎ (k ≤ i) → bitPower f n b e i ≡ bitPower f n b e k
     go (inl l) = sym (bits-above f n b e i k p (omega arith))
     go (inr l) = bits-above f n b e k i q l
+
+-- the lowest bits of e are done, and `rest` is what is left of e
+pub record BitsDone (f : Format) (n e : ℕ) (w₀ w : List Float) (rest : ℕ) : Type 0 where
+  pub bits : ℕ
+  pub left : rest ≡ e / 2 ^ bits
+  pub multiplied : BitsMultiplied f n e bits w₀ w
 
 module _ (f : Format) (n : ℕ) (w₀ : List Float) (r : Room n w₀) where
   -- ---- a bit
@@ -76,7 +82,7 @@ module _ (f : Format) (n : ℕ) (w₀ : List Float) (r : Room n w₀) where
 
   -- ---- all bits
 
-  pub bits-none : (e : ℕ) → slot n w₀ 1 ≡ identityM n → BitsMultiplied f n e 0 w₀ w₀
+  bits-none : (e : ℕ) → slot n w₀ 1 ≡ identityM n → BitsMultiplied f n e 0 w₀ w₀
   unfolding bitPower squared
   bits-none e h = record { power = refl; product = h; only = only-refl (member (0 ∷ 1 ∷ 2 ∷ [])) w₀ }
 
@@ -86,7 +92,7 @@ module _ (f : Format) (n : ℕ) (w₀ : List Float) (r : Room n w₀) where
     unfolding bitPower
     product-more = M .product ∙ (λ j. cond (eqb (left j % 2) 1) (mulM f n (B .product j) (B .power j)) (B .product j))
 
-    pub bits-more : (w2 : List Float) → Squared f n w1 0 2 1 w2 → BitsMultiplied f n e (suc i) w₀ w2
+    bits-more : (w2 : List Float) → Squared f n w1 0 2 1 w2 → BitsMultiplied f n e (suc i) w₀ w2
     unfolding squared
     bits-more w2 S =
         let all = member (0 ∷ 1 ∷ 2 ∷ []) in
@@ -100,13 +106,27 @@ module _ (f : Format) (n : ℕ) (w₀ : List Float) (r : Room n w₀) where
         }
 
     -- the last bit
-    pub bits-all : e < 2 ^ 64 → rest ≤ 1 → AllMultiplied f n e w₀ w1
+    bits-all : e < 2 ^ 64 → rest ≤ 1 → AllMultiplied f n e w₀ w1
     bits-all fits last =
         let none : e / 2 ^ suc i ≡ 0 = sym (rest-more e i) ∙ ap (λ (d : ℕ). d / 2) (sym left) ∙ div-eq-of-lt {n = rest} {m = 2} (omega arith) in
         record {
-          product = product-more ∙ bits-end f n (slot n w₀ 0) e (suc i) 64 none (div-eq-of-lt fits);
+          product = product-more ∙ same-bits f n (slot n w₀ 0) e (suc i) 64 none (div-eq-of-lt fits);
           only = only-trans (B .only) (only-more (member-among (member (0 ∷ 1 ∷ 2 ∷ [])) (1 ∷ 2 ∷ []) refl) (M .only));
         }
+
+  pub bits-start : (e : ℕ) → slot n w₀ 1 ≡ identityM n → BitsDone f n e w₀ w₀ e
+  bits-start e h = record { bits = 0; left = sym (div-one e); multiplied = bits-none e h }
+
+  module _ {e rest : ℕ} {w w1 : List Float} (s : BitsDone f n e w₀ w rest) (M : BitMultiplied f n rest w w1) where
+    pub bits-turn : {w2 : List Float} → Squared f n w1 0 2 1 w2 → BitsDone f n e w₀ w2 (rest / 2)
+    bits-turn {w2} S = record {
+      bits = suc (s .bits);
+      left = ap (λ (d : ℕ). d / 2) (s .left) ∙ rest-more e (s .bits);
+      multiplied = bits-more e (s .bits) rest w w1 (s .multiplied) (s .left) M w2 S;
+    }
+
+    pub bits-end : e < 2 ^ 64 → rest ≤ 1 → AllMultiplied f n e w₀ w1
+    bits-end fits last = bits-all e (s .bits) rest w w1 (s .multiplied) (s .left) M fits last
 
   pub identity-first : (w1 : List Float) → w1 ≡ store w₀ 1 (identityM n) → slot n w1 1 ≡ identityM n
   identity-first w1 e1 = held-at 1 n (step-identity n (r .order) 1 (start (member (1 ∷ [])) n r) e1 refl refl) refl

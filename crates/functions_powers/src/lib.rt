@@ -1,6 +1,7 @@
 // Cosine, sine and powers of a matrix.
 mod calls;
 mod cosine;
+pub mod exponent;
 mod power;
 mod sine;
 mod whole;

@@ -1,7 +1,6 @@
 // Whole powers of the matrix of order n in slot 0, by the exponent's bits from the lowest. The product stands in slot 1, and slot 2 is scratch.
 ghost use mathlib.Core.Path.{_≡_};
 ghost use mathlib.Core.List.{[], _∷_};
-ghost use lib.IntN.{natAbs};
 ghost use lib.ListN.{length};
 ghost use lib.Ieee.{binary64};
 ghost use Rattle.arithmetic_matrices.specs.Product.{identityM};
@@ -10,7 +9,9 @@ ghost use Rattle.arithmetic_questions.specs.Kernels.{Replaced};
 ghost use Rattle.lu_factoring.specs.Solve.{inverse};
 ghost use Rattle.functions_definitions.specs.Roots.{orNotConverged};
 ghost use Rattle.functions_definitions.specs.Powers.{wholePower, inversePower};
-ghost use Rattle.functions_powers.specs.Kernels.{BitMultiplied, AllMultiplied, BitPowered, isNegative};
+ghost use Rattle.functions_powers.specs.Kernels.{BitMultiplied, AllMultiplied, BitPowered};
+use crate::exponent::is_negative;
+use crate::exponent::size_of;
 use arithmetic_matrices::workspace::copy;
 use arithmetic_matrices::workspace::identity;
 use arithmetic_matrices::workspace::mult;
@@ -92,24 +93,6 @@ fn inverse_power(w: &mut [f64], n: usize, e: u64) -> Outcome
             bit_power(w, n, e);
             Outcome::Done { halvings: 0 }
         }
-    }
-}
-
-// Whether e is below 0.
-pub fn is_negative(e: i64) -> bool
-    ensures { λ r. ⌜ r ≡ isNegative e ⌝ }
-{
-    e < 0
-}
-
-// The magnitude of e. That of the least `i64` is 2^63.
-pub fn size_of(e: i64) -> u64
-    ensures { λ r. ⌜ r ≡ natAbs e ⌝ }
-{
-    if is_negative(e) {
-        (-1 - e) as u64 + 1
-    } else {
-        e as u64
     }
 }
 

@@ -1,5 +1,6 @@
 -- Laws of a loop over passes in a workspace, for every state that is read from it, and of a system in slots. Assumes nothing.
 use Prim.Native.Nat.{ℕ, _+_, _-_, _*_, _≤_, _<_}
+use native.Mathlib.Omega.{arith}
 use mathlib.Core.Path.{_≡_, refl, sym, ap, _∙_}
 use mathlib.Core.Bool.{Bool, true, false, true≢false}
 use mathlib.Core.List.{List}
@@ -57,34 +58,35 @@ fails-ended Failed x e = refl
 
 -- ---- the loop
 
--- i passes are made, and the iteration goes on
-pub record Passing {S : Type 0} (g : ℕ → S → Step S) (read : List Float → S) (ss : List ℕ) (w₀ w : List Float) (i : ℕ) : Type 0 where
+-- i passes are made of at most `count`, and the iteration goes on
+pub record Passing {S : Type 0} (g : ℕ → S → Step S) (count : ℕ) (read : List Float → S) (ss : List ℕ) (w₀ w : List Float) (i : ℕ) : Type 0 where
+  pub within : i ≤ count
   pub state : after g (read w₀) i ≡ running (read w)
   pub only : Only (member ss) w₀ w
 
-module _ {S : Type 0} (g : ℕ → S → Step S) (read : List Float → S) (ss : List ℕ) (w₀ : List Float) where
-  pub passing-none : Passing g read ss w₀ w₀ 0
-  unfolding after
-  passing-none = record { state = refl; only = only-refl (member ss) w₀ }
+pub passing-start : {S : Type 0} {g : ℕ → S → Step S} {count : ℕ} {read : List Float → S} {ss : List ℕ} {w₀ : List Float} → Passing g count read ss w₀ w₀ 0
+unfolding after
+passing-start {ss = ss} {w₀ = w₀} = record { within = omega arith; state = refl; only = only-refl (member ss) w₀ }
 
-  module _ (w w′ : List Float) (i : ℕ) (p : Pass) (H : Passing g read ss w₀ w i) (P : OnePass (g i) read ss p w w′) where
+module _ {S : Type 0} {g : ℕ → S → Step S} {count : ℕ} {read : List Float → S} {ss : List ℕ} {w₀ w : List Float} {i : ℕ} (H : Passing g count read ss w₀ w i) where
+  module _ {w′ : List Float} {p : Pass} (h : i < count) (P : OnePass (g i) read ss p w w′) where
     told : (q : Pass) → p ≡ q → g i (read w) ≡ asStep q (read w′)
     told q e = sym (P .step) ∙ ap (λ (z : Pass). asStep z (read w′)) e
 
     all : Only (member ss) w₀ w′
     all = only-trans (H .only) (P .only)
 
-    pub passing-more : p ≡ Running → Passing g read ss w₀ w′ (i + 1)
-    passing-more e = record { state = goes-on g (read w₀) (read w) i (H .state) (read w′) (told Running e); only = all }
+    pub passing-more : p ≡ Running → Passing g count read ss w₀ w′ (i + 1)
+    passing-more e = record { within = omega arith; state = goes-on g (read w₀) (read w) i (H .state) (read w′) (told Running e); only = all }
 
-    pub passing-stops : (k : ℕ) → i < k → p ≡ Stopped → Passes g k read ss Stopped w₀ w′
-    passing-stops k h e = record { step = sym (stops g (read w₀) (read w) i (H .state) (read w′) k h (told Stopped e)); only = all }
+    pub passing-stops : p ≡ Stopped → Passes g count read ss Stopped w₀ w′
+    passing-stops e = record { step = sym (stops g (read w₀) (read w) i (H .state) (read w′) count h (told Stopped e)); only = all }
 
-    pub passing-fails : (k : ℕ) → i < k → p ≡ Failed → Passes g k read ss Failed w₀ w′
-    passing-fails k h e = record { step = sym (fails g (read w₀) (read w) i (H .state) k h (told Failed e)); only = all }
+    pub passing-fails : p ≡ Failed → Passes g count read ss Failed w₀ w′
+    passing-fails e = record { step = sym (fails g (read w₀) (read w) i (H .state) count h (told Failed e)); only = all }
 
-  pub passing-out : (w : List Float) (i k : ℕ) → Passing g read ss w₀ w i → i ≤ k → k ≤ i → Passes g k read ss Running w₀ w
-  passing-out w i k H h l = record { step = sym (runs-out g (read w₀) (read w) i (H .state) k h l); only = H .only }
+  pub passing-out : count ≤ i → Passes g count read ss Running w₀ w
+  passing-out l = record { step = sym (runs-out g (read w₀) (read w) i (H .state) count (H .within) l); only = H .only }
 
 -- ---- a system: the matrix in slot 2, the right-hand matrix in slot x
 

@@ -8,43 +8,31 @@ ghost use Rattle.arithmetic_questions.specs.Answers.{reported};
 ghost use Rattle.arithmetic_questions.specs.Result.{exit, outcome as outcomeOf};
 ghost use Rattle.arithmetic_questions.specs.Outputs.{OneOutput};
 ghost use Rattle.lu_factoring.specs.Solve.{solvedMatrix};
-ghost use Rattle.lu.specs.Kernels.{FactoredCopy, Computing, luReport};
+ghost use Rattle.lu.specs.Kernels.{FactoredCopy, Computing};
 ghost use Rattle.lu.specs.Calls.{Computed, compute as computeOf, solve as solveOf, determinant as determinantOf};
+use crate::question::answer_of;
 use crate::question::ask_compute;
 use crate::question::ask_determinant;
 use crate::question::ask_solve;
-use crate::substitution::solve_columns;
 use arithmetic_matrices::matrix::copy_row;
 use arithmetic_matrices::workspace::clear;
 use arithmetic_matrices::workspace::copy_in;
 use arithmetic_matrices::workspace::copy_out;
-use arithmetic_matrices::workspace::small_room;
 use arithmetic_questions::answer::Answer;
 use arithmetic_questions::answer::Outcome;
 use arithmetic_questions::answer::Question;
-use arithmetic_questions::answer::Refusal;
 use arithmetic_questions::answer::done;
 use arithmetic_questions::answer::refused;
 use lu_factoring::LuOutcome;
 use lu_factoring::factor::factor_in;
 use lu_factoring::room::pivot_room;
+use lu_substitution::pivots::copy_pivots;
+use lu_substitution::substitution::solve_rows;
 
 // The answer of `determinant`; +0 beside a refusal.
 pub struct DeterminantAnswer {
     pub outcome: Outcome,
     pub value: f64,
-}
-
-// Copies src to dst, which is as long.
-pub fn copy_pivots(dst: &mut [usize], src: &[usize])
-    requires { ⌜ length (now src) ≡ length (now dst) ⌝ }
-    ensures { λ _. ⌜ now (dst .exit) ≡ now (src .entry) ⌝ }
-{
-    let mut k = 0;
-    while k < src.len() {
-        dst[k] = src[k];
-        k += 1;
-    }
 }
 
 // A copy of the n by n matrix a is factored in w, from slot 0 on.
@@ -94,16 +82,6 @@ fn compute_with_room(
     compute_in(n, a, factors, pivots, w, &mut rows[..n])
 }
 
-// Question 14: done, or refused by the column that did not pass.
-pub fn answer_of(outcome: LuOutcome) -> Answer
-    ensures { λ r. ⌜ reported (r .outcome) ≡ luReport outcome ⌝ }
-{
-    match outcome {
-        LuOutcome::Factored => done(0),
-        LuOutcome::Singular(k) => refused(Refusal::SingularColumn(k)),
-    }
-}
-
 // The LU factors of the matrix a and the pivots' rows.
 pub fn compute(
     rows: usize,
@@ -127,12 +105,11 @@ pub fn compute(
 
 // The solutions for the m columns of b are written to out.
 fn solve_into(f: &[f64], n: usize, pivots: &[usize], b: &[f64], m: usize, out: &mut [f64])
-    requires { ⌜ (n ≤ 64) × (length (now f) ≡ n * n) × (length (now b) ≡ n * m) × (length (now out) ≡ n * m) × (length (now pivots) ≡ n) × ((k : ℕ) → k < n → getD (now pivots) k 0 < n) ⌝ }
+    requires { ⌜ (length (now f) ≡ n * n) × (length (now b) ≡ n * m) × (length (now out) ≡ n * m) × (length (now pivots) ≡ n) × ((k : ℕ) → k < n → getD (now pivots) k 0 < n) ⌝ }
     ensures { λ _. ⌜ now (out .exit) ≡ solvedMatrix binary64 n m (now (f .entry)) (now (pivots .entry)) (now (b .entry)) ⌝ }
 {
     copy_row(out, b);
-    let mut column = small_room();
-    solve_columns(f, n, pivots, out, m, &mut column[..n]);
+    solve_rows(out, f, n, m, pivots);
 }
 
 // The solution of the systems whose matrix has the factors f and the pivots, for the columns of b, of height by width.
@@ -169,7 +146,7 @@ pub fn determinant(rows: usize, columns: usize, f: &[f64], pivots: &[usize]) -> 
         },
         Question::Passed => DeterminantAnswer {
             outcome: Outcome::Done { halvings: 0 },
-            value: crate::substitution::determinant(f, rows, pivots),
+            value: lu_substitution::substitution::determinant(f, rows, pivots),
         },
     }
 }

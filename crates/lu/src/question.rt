@@ -6,16 +6,21 @@ ghost use Prim.Native.Nat.{_*_};
 ghost use lib.Dec.{eqb, ltb, leb};
 ghost use Rattle.arithmetic_questions.specs.Result.{firstNo, ask as askOf};
 ghost use Rattle.arithmetic_questions.specs.Questions.{atMost, exactly, pivotsFrom, asked, ofCompute, ofSolve, ofDeterminant};
-ghost use Rattle.arithmetic_questions.specs.Answers.{found};
+ghost use Rattle.arithmetic_questions.specs.Answers.{found, reported};
+ghost use Rattle.lu.specs.Kernels.{luReport};
 ghost use Rattle.lu.specs.Calls.{computeCall, solveCall, determinantCall};
+use arithmetic_questions::answer::Answer;
 use arithmetic_questions::answer::Question;
 use arithmetic_questions::answer::Refusal;
+use arithmetic_questions::answer::done;
+use arithmetic_questions::answer::refused;
 use arithmetic_questions::question::ask;
 use arithmetic_questions::question::ask_at_most;
 use arithmetic_questions::question::ask_length;
 use arithmetic_questions::question::ask_room;
 use arithmetic_questions::question::ask_square;
 use arithmetic_questions::question::first_no;
+use lu_factoring::LuOutcome;
 
 // Is p, which is pivot k, a row from k to n - 1?
 pub fn names_row(k: usize, p: usize, n: usize) -> bool
@@ -152,4 +157,14 @@ pub fn ask_solve(
         return shapes;
     };
     ask_pivots(pivots, rows)
+}
+
+// Question 14: done, or refused by the column that did not pass.
+pub fn answer_of(outcome: LuOutcome) -> Answer
+    ensures { λ r. ⌜ reported (r .outcome) ≡ luReport outcome ⌝ }
+{
+    match outcome {
+        LuOutcome::Factored => done(0),
+        LuOutcome::Singular(k) => refused(Refusal::SingularColumn(k)),
+    }
 }

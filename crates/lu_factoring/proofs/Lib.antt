@@ -2,7 +2,7 @@
 pub mod LuLaws
 pub mod LuLoop
 pub mod SolveLaws
-pub mod ColumnLaws
+pub mod SystemLaws
 pub mod RowLaws
 pub mod DivisionLaws
 pub mod Tolerance

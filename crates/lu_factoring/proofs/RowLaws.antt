@@ -5,7 +5,7 @@ use mathlib.Core.List.{List, [], _∷_}
 use mathlib.Core.Logic.{_⊎_, inl, inr, ⊎-elim}
 use native.Mathlib.Nat.{div-add-mod', zero-add, add-zero, mul-one}
 use native.Mathlib.Omega.{arith}
-use lib.ListN.{length, set}
+use lib.ListN.{length, set, length-set}
 use lib.Seq.{ext-getD, getD-set-same, getD-set-other, set-set, set-comm}
 use lib.Ieee.{Float, nan}
 use Rattle.arithmetic_matrices.specs.Matrix.{tab, at, grid, item, column, part, put, Apart}
@@ -48,7 +48,7 @@ pub part-kept : (o d x c : ℕ) (w₀ w M : List Float) → Apart o d x c → le
 part-kept o d x c w₀ w M apart size e = ap (λ (v : List Float). part v o d) e ∙ part-put-apart w₀ x c M o d apart (omega arith)
 
 -- two parts change places: the first j numbers, and one more
-pub swap-part-more : (w : List Float) (x y m j : ℕ) (u : List Float) → Apart x m y m → j < m → u ≡ put (put w x (part w y j)) y (part w x j)
+swap-part-more : (w : List Float) (x y m j : ℕ) (u : List Float) → Apart x m y m → j < m → u ≡ put (put w x (part w y j)) y (part w x j)
     → set (set u (x + j) (item u (y + j))) (y + j) (item u (x + j)) ≡ put (put w x (part w y (j + 1))) y (part w x (j + 1))
 unfolding part
 swap-part-more w x y m j u h b e =
@@ -73,6 +73,27 @@ swap-part-more w x y m j u h b e =
 
     gap : (x + j < y) ⊎ (y + length (tab j X) ≤ x + j)
     gap = ⊎-elim (λ p. inl (omega arith)) (λ p. inr (omega (arith, length-tab j X))) h
+
+-- what the loop keeps: w is w₀ with the first j of the m numbers at x and at y changed places
+pub record Swapped (x y m : ℕ) (w₀ w : List Float) (j : ℕ) : Type 0 where
+  pub within : j ≤ m
+  pub long : length w ≡ length w₀
+  pub list : w ≡ put (put w₀ x (part w₀ y j)) y (part w₀ x j)
+
+pub swapped-start : (x y m : ℕ) (w₀ : List Float) → Swapped x y m w₀ w₀ 0
+unfolding put part tab
+swapped-start x y m w₀ = record { within = omega arith; long = refl; list = refl }
+
+pub swapped-turn : {x y m : ℕ} {w₀ w : List Float} {j : ℕ} → Swapped x y m w₀ w j → Apart x m y m → j < m
+    → Swapped x y m w₀ (set (set w (x + j) (item w (y + j))) (y + j) (item w (x + j))) (j + 1)
+swapped-turn {x} {y} {m} {w₀} {w} {j} s a h = record {
+  within = omega arith;
+  long = simp length-set (s .long);
+  list = swap-part-more w₀ x y m j w a h (s .list);
+}
+
+pub swapped-end : {x y m : ℕ} {w₀ w : List Float} {j : ℕ} → Swapped x y m w₀ w j → m ≤ j → w ≡ put (put w₀ x (part w₀ y m)) y (part w₀ x m)
+swapped-end {m = m} {j = j} s h = let e : j ≡ m = omega arith in rw e at (s .list)
 
 -- ---- every column changed
 

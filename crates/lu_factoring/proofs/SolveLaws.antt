@@ -4,7 +4,7 @@ use Prim.Native.Nat.{ℕ, zero, suc, _+_, _-_, _≤_, _<_}
 use mathlib.Core.Path.{_≡_, refl, ap, _∙_}
 use mathlib.Core.Bool.{Bool, cond}
 use mathlib.Core.List.{List}
-use mathlib.Core.Logic.{_⊎_, ⊎-elim}
+use mathlib.Core.Logic.{⊎-elim}
 use native.Mathlib.Omega.{arith}
 use native.Mathlib.Numerals.{add-one}
 use lib.Dec.{eqb}
@@ -17,33 +17,14 @@ use Rattle.arithmetic_matrices.specs.Kernels.{patch}
 use Rattle.arithmetic_floats.proofs.Order.{split, same-or-not}
 use Rattle.arithmetic_matrices.proofs.MatrixLaws.{length-tab, tab-is}
 use Rattle.arithmetic_matrices.proofs.PatchLaws.{length-patch, patch-more, patch-in, patch-below, patch-above}
-use Rattle.lu_factoring.specs.Solve.{swapItems, permuted, forwardStep, forward, backStep, back, solved, swaps, signedProduct}
+use Rattle.lu_factoring.specs.Solve.{swapItems, permuted, forwardStep, forward, backStep, back, swaps, signedProduct}
 use Rattle.lu_factoring.specs.Kernels.{lowered}
-use Rattle.lu_factoring.proofs.LuLaws.{exchange-first, exchange-second, exchange-other}
 
 -- ---- swaps
-
--- two stores swap two elements
-pub swap-items : (n k p : ℕ) (x : List Float) → k < n → p < n → length x ≡ n → set (set x k (item x p)) p (item x k) ≡ swapItems n k p x
-unfolding swapItems
-swap-items n k p x hk hp size =
-    tab-is nan n _ (set (set x k (item x p)) p (item x k)) (simp length-set size)
-    (λ i h.
-    ⊎-elim (λ (e : i ≡ p). rw (e, exchange-second k p) (getD-set-same (set x k (item x p)) p (item x k) nan (rw (length-set, size) hp)))
-    (λ (d : i ≡ p → ⊥).
-    getD-set-other (set x k (item x p)) p i (item x k) nan d
-    ∙ ⊎-elim (λ (e : i ≡ k). rw (e, exchange-first k p) (getD-set-same x k (item x p) nan (rw size hk)))
-    (λ (f : i ≡ k → ⊥). rw (exchange-other k p i f d) (getD-set-other x k i (item x p) nan f))
-    (same-or-not i k))
-    (same-or-not i p))
 
 pub permuted-more : (n : ℕ) (ps : List ℕ) (x : List Float) (k : ℕ) → swapItems n k (getD ps k 0) (permuted n ps x k) ≡ permuted n ps x (k + 1)
 unfolding permuted
 permuted-more n ps x k = rw add-one
-
-pub permute-turn : (n : ℕ) (ps : List ℕ) (x₀ x x1 : List Float) (k p : ℕ) → k < n → p < n → length x ≡ n → x ≡ permuted n ps x₀ k → p ≡ getD ps k 0
-    → x1 ≡ set (set x k (item x p)) p (item x k) → x1 ≡ permuted n ps x₀ (k + 1)
-permute-turn n ps x₀ x x1 k p hk hp size e ep e1 = e1 ∙ swap-items n k p x hk hp size ∙ rw (e, ep) (permuted-more n ps x₀ k)
 
 pub length-permuted : (n : ℕ) (ps : List ℕ) (x : List Float) (k : ℕ) → length x ≡ n → length (permuted n ps x k) ≡ n
 unfolding permuted swapItems
@@ -58,13 +39,6 @@ module _ (f : Format) (n : ℕ) (F : List Float) (k lo i : ℕ) (l : List Float)
   lowered-more y v z hi e ev ez =
       rw (e, ev, ez, patch-above lo i (lowered f n F k l) l i nan from (omega arith) hi) (patch-more nan lo (lowered f n F k l) l i from hi)
 
-  -- the same where row k is read as the loop has it: it lies before the rows that are done, or after them
-  pub lowered-row : (y : List Float) (v : Float) → i < length l → k < length l → (k < lo) ⊎ (i ≤ k) → y ≡ patch lo i (lowered f n F k l) l → v ≡ at n F i k
-      → set y i (sub f (item y i) (mul f v (item y k))) ≡ patch lo (i + 1) (lowered f n F k l) l
-  lowered-row y v hi hk apart e ev =
-      lowered-more y v (item y k) hi e ev
-      (ap (λ x. item x k) e ∙ ⊎-elim (λ h. patch-below lo i (lowered f n F k l) l k nan h hk) (λ h. patch-above lo i (lowered f n F k l) l k nan (omega arith) h hk) apart)
-
 -- ---- forward substitution
 
 -- one column: the rows below row k are done
@@ -77,7 +51,7 @@ forward-step f n F k x size hk =
     (λ w. rw (le-ltb k i w) (patch-below (k + 1) n (lowered f n F k x) x i nan (omega arith) (omega arith)))
     (split k i))
 
-pub length-forwardStep : (f : Format) (n : ℕ) (F : List Float) (k : ℕ) (x : List Float) → length (forwardStep f n F k x) ≡ n
+length-forwardStep : (f : Format) (n : ℕ) (F : List Float) (k : ℕ) (x : List Float) → length (forwardStep f n F k x) ≡ n
 unfolding forwardStep
 length-forwardStep f n F k x = length-tab n _
 
@@ -145,10 +119,3 @@ swaps-turn ps k c c1 p e ep b t e1 = e1 ∙ rw (add-one, ← ep, t, e)
 pub product-turn : (f : Format) (n : ℕ) (F : List Float) (s d d1 v : Float) (k : ℕ) → d ≡ signedProduct f n F s k → v ≡ at n F k k → d1 ≡ mul f d v → d1 ≡ signedProduct f n F s (k + 1)
 unfolding signedProduct
 product-turn f n F s d d1 v k e ev e1 = e1 ∙ rw (e, ev, add-one)
-
--- ---- the solution
-
-pub solve-is : (f : Format) (n : ℕ) (F : List Float) (ps : List ℕ) (x x1 x2 x3 : List Float)
-    → x1 ≡ permuted n ps x n → x2 ≡ forward f n F x1 n → x3 ≡ back f n F x2 n → x3 ≡ solved f n F ps x
-unfolding solved
-solve-is f n F ps x x1 x2 x3 e1 e2 e3 = rw (e3, e2, e1)

@@ -2,7 +2,7 @@
 use Prim.Native.Nat.{ℕ, _*_}
 use mathlib.Core.Bool.{cond}
 use mathlib.Core.List.{List}
-use lib.Dec.{leb, eqb}
+use lib.Dec.{leb}
 use lib.Ieee.{Float, Format, mul, sub}
 use mathlib.Core.Path.{_≡_}
 use Rattle.arithmetic_matrices.specs.Matrix.{at, part, put, grid, item, column}
@@ -37,10 +37,6 @@ pub record LuDoneIn (f : Format) (n off : ℕ) (w : List Float) (ps : List ℕ) 
 -- x(i) less F(i, k) * x(k)
 abbrev pub lowered : Format → ℕ → List Float → ℕ → List Float → ℕ → Float
 lowered f n F k x = lessTerm f n F k (item x k) x
-
--- the matrix b with its column j replaced by x
-unfoldable pub withColumn : ℕ → ℕ → ℕ → List Float → List Float → List Float
-withColumn n m j x b = grid n m (λ r c. cond (eqb c j) (item x r) (at m b r c))
 
 -- the matrix whose columns are g of the columns of b
 unfoldable pub eachColumn : ℕ → ℕ → (List Float → List Float) → List Float → List Float

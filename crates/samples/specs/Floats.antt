@@ -3,14 +3,14 @@ use Prim.Native.Nat.{ℕ}
 use mathlib.Core.Path.{_≡_, refl}
 use mathlib.Core.Bool.{true}
 use mathlib.Core.List.{List, [], _∷_}
-use lib.Ieee.{Format, binary32, binary64, ofBits, toBits}
+use lib.Ieee.{Format, binary64, ofBits, toBits}
 use Rattle.arithmetic_floats.specs.Float.{roundAway}
 use Rattle.arithmetic_floats.specs.Root.{sqrtOf}
 use Rattle.samples.specs.Shown.{Line, hold}
 use Rattle.samples.specs.Opened.{all}
 
 -- by their bits
-abbrev root : Format → ℕ → List ℕ
+abbrev pub root : Format → ℕ → List ℕ
 root f x = toBits f (sqrtOf f (ofBits f x)) ∷ []
 
 abbrev rounded : ℕ → List ℕ
@@ -22,7 +22,6 @@ table =
     (0x3ff6a09e667f3bcd ∷ [], root binary64 0x4000000000000000)
     ∷ (0x1e60000000000000 ∷ [], root binary64 1)
     ∷ (0x5fefffffffffffff ∷ [], root binary64 0x7fefffffffffffff)
-    ∷ (0x3fb504f3 ∷ [], root binary32 0x40000000)
     -- rounding: -0.3, -2.5, 2.5, the largest value below 0.5, 0.5, the largest value with a fraction, 1e300
     ∷ (0x8000000000000000 ∷ [], rounded 0xbfd3333333333333)
     ∷ (0xc008000000000000 ∷ [], rounded 0xc004000000000000)

@@ -38,9 +38,9 @@ logPasses f n a = sumOver (newtonPasses f n) (rooting f n a) 100 + passes (serie
 
 unfoldable pub table : List Line
 table =
-    (8 ∷ [], passes (denmanBeavers binary64 2 (numbers (0x3fe0000000000000 ∷ 0x3fd5555555555555 ∷ 0x3fd5555555555555 ∷ 0x3fd0000000000000 ∷ []))) 100 ∷ [])
-    ∷ (10 ∷ [], passes (denmanBeavers binary64 2 (numbers (0x40085ebe1e10b468 ∷ 0x427f4ba7df31a240 ∷ 0xbcfa13595a75b3d8 ∷ 0xbcb1ff2fce5231b0 ∷ []))) 100 ∷ [])
-    ∷ (3 ∷ [], logPasses binary64 2 (numbers (0x3fefffff71c1383d ∷ 0x3e784a7ef78d13d0 ∷ 0xbe72b056afa4e090 ∷ 0x3fefffff57bc7d08 ∷ [])) ∷ [])
+    (8 ∷ [], passes (denmanBeavers binary64 2 (numbers binary64 (0x3fe0000000000000 ∷ 0x3fd5555555555555 ∷ 0x3fd5555555555555 ∷ 0x3fd0000000000000 ∷ []))) 100 ∷ [])
+    ∷ (10 ∷ [], passes (denmanBeavers binary64 2 (numbers binary64 (0x40085ebe1e10b468 ∷ 0x427f4ba7df31a240 ∷ 0xbcfa13595a75b3d8 ∷ 0xbcb1ff2fce5231b0 ∷ []))) 100 ∷ [])
+    ∷ (3 ∷ [], logPasses binary64 2 (numbers binary64 (0x3fefffff71c1383d ∷ 0x3e784a7ef78d13d0 ∷ 0xbe72b056afa4e090 ∷ 0x3fefffff57bc7d08 ∷ [])) ∷ [])
     ∷ []
 
 pub passes-hold : hold table ≡ true
@@ -48,6 +48,6 @@ unfolding table all sumOver passes newtonPasses logPasses
 passes-hold = refl
 
 -- four Newton roots and the series
-pub log-passes : logPasses binary64 2 (numbers (0x4008000000000000 ∷ 0x0000000000000000 ∷ 0x4000000000000000 ∷ 0x4010000000000000 ∷ [])) ≡ 33
+pub log-passes : logPasses binary64 2 (numbers binary64 (0x4008000000000000 ∷ 0x0000000000000000 ∷ 0x4000000000000000 ∷ 0x4010000000000000 ∷ [])) ≡ 33
 unfolding all sumOver passes newtonPasses logPasses
 log-passes = refl

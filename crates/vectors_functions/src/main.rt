@@ -1,20 +1,7 @@
 // Runs the recorded vectors that it reads on standard input, and compares every outcome, every output and what is left in the workspace bit
 // for bit, NaN as one value. It writes a line for each function: how many calls there are and how many differ. host/README.md describes the
-// vectors. Those in the file stdin were made so, in the folder host, with FIGPUMICE_SOURCE set to the folder of the source:
-//
-//     run() { cargo run --offline --release -q -p vectors -- "$@"; }
-//     for f in expm logm sqrtm powm cosm sinm frechet_expm frechet_logm frechet_sqrtm cond_expm; do
-//         run given $f | sed 's/| near/| ok/'
-//         run $f 1 3000 | awk '
-//             match($0, /\| (ok|no [^ ]*)/) { k = substr($0, RSTART, RLENGTH); if (++seen[k] <= (k == "| ok" ? 45 : 3)) print }
-//         '
-//         run planted $f
-//     done > ../crates/vectors_functions/stdin
-//
-// These are the calls that are written out, and of each function's 3,000 vectors the first 45 that are done and the first 3 of each refusal, without
-// those near a power of two. Of the calls that are written out some lie near one; both counts of halvings agree there. The last line of each
-// function is planted: the last number of its outputs is wrong in the last bit, and the program must find it. So stdout says of each function that
-// one call differs, on that line.
+// vectors; tools/record-vectors makes those in the file stdin, and says which they are. The last line of each function is planted: the last number
+// of its outputs is wrong in the last bit, and the program must find it. So stdout says of each function that one call differs, on that line.
 ghost use Prim.Native.Nat.{_≤_};
 ghost use lib.ListN.{length};
 

@@ -1,19 +1,7 @@
 // Runs the recorded vectors that it reads on standard input, and compares every outcome, every output and what is left in the workspace bit
 // for bit, NaN as one value. It writes a line for each function: how many calls there are and how many differ. host/README.md describes the
-// vectors. Those in the file stdin were made so, in the folder host, with FIGPUMICE_SOURCE set to the folder of the source:
-//
-//     run() { cargo run --offline --release -q -p vectors -- "$@"; }
-//     for f in lu_compute lu_solve lu_determinant kron kron_sum; do
-//         run $f 1 3000 | awk '
-//             $6 ~ /^(.?.?.|10..)$/ && (length < 12000 ? NR <= 75 || / no / && ++refused <= 40 : / no 4 / ? ++large <= 1 : / ok / && ++long <= 1)
-//         '
-//         run planted $f
-//     done > ../crates/vectors_lu/stdin
-//
-// Of each function's 3,000 vectors these are the first 75 and the first 40 refusals, without lines of 12,000 bytes and more, and of those the
-// first refusal 4 and the first that is done; an output longer than 4,351 numbers is left out. The last line of each function is planted: the
-// last number of its output is wrong in the last bit, and the program must find it. So stdout says of each function that one call differs, on that
-// line.
+// vectors; tools/record-vectors makes those in the file stdin, and says which they are. The last line of each function is planted: the last number
+// of its outputs is wrong in the last bit, and the program must find it. So stdout says of each function that one call differs, on that line.
 ghost use Prim.Native.Nat.{_≤_};
 ghost use lib.ListN.{length};
 

@@ -3,9 +3,9 @@ ghost use mathlib.Core.Path.{_≡_};
 ghost use Prim.Native.Nat.{_≤_};
 ghost use lib.ListN.{length};
 use crate::counts;
+use crate::number_of;
 use crate::numbers;
 use crate::word;
-use arithmetic::float_of;
 
 // The counts of a call and its exponent, and where its lists start.
 pub struct Shape {
@@ -48,7 +48,7 @@ pub fn read_shape(s: &[u8], at: usize) -> Shape
         output: x[4],
         second: x[5],
         room: x[6],
-        exponent: float_of(x[7] as u64),
+        exponent: number_of(x[7] as u64),
         next,
     }
 }

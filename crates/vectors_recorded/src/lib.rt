@@ -3,12 +3,13 @@ ghost use Prim.Native.Nat.{_≤_};
 ghost use lib.ListN.{length};
 ghost use Rattle.vectors_recorded.specs.Within.{Within};
 
+mod bits;
 pub mod call;
 pub mod outcome;
 pub mod tally;
 
 use arithmetic::bits_of;
-use arithmetic::float_of;
+pub use bits::number_of;
 
 // A number, and where the next one starts.
 pub struct Number {
@@ -119,7 +120,7 @@ pub fn numbers(s: &[u8], at: usize, into: &mut [f64]) -> usize
     let mut i = 0;
     while i < into.len() {
         let number = word(s, next);
-        into[i] = float_of(number.value);
+        into[i] = number_of(number.value);
         next = number.next;
         i += 1;
     }
@@ -128,7 +129,7 @@ pub fn numbers(s: &[u8], at: usize, into: &mut [f64]) -> usize
 
 // Whether x has these bits; every NaN has the same.
 pub fn has_bits(x: f64, bits: u64) -> bool {
-    bits_of(x) == bits_of(float_of(bits))
+    bits_of(x) == bits_of(number_of(bits))
 }
 
 // Whether the list at `at`, a length and so many whole numbers, is x.

@@ -1,13 +1,9 @@
 // Runs the recorded square roots that it reads on standard input: a number's bits and its root's, a pair to a line. It writes how many there are
-// and how many differ. Those in the file stdin were made so, in the folder host, with FIGPUMICE_SOURCE set to the folder of the source:
-//
-//     run() { cargo run --offline --release -q -p vectors -- "$@"; }
-//     { run roots; run planted roots; } > ../crates/vectors_roots/stdin
-//
-// The last line is planted: its root is wrong in the last bit, and the program must find it. So stdout says that one differs, on the last line.
-use arithmetic::float_of;
+// and how many differ. tools/record-vectors makes those in the file stdin. The last line is planted: its root is wrong in the last bit, and the
+// program must find it. So stdout says that one differs, on the last line.
 use arithmetic::sqrt;
 use vectors_recorded::has_bits;
+use vectors_recorded::number_of;
 use vectors_recorded::tally::Tally;
 use vectors_recorded::tally::judged;
 use vectors_recorded::tally::next;
@@ -15,7 +11,7 @@ use vectors_recorded::tally::write_tally;
 use vectors_recorded::word;
 
 fn same_root(x: u64, root: u64) -> bool {
-    has_bits(sqrt(float_of(x)), root)
+    has_bits(sqrt(number_of(x)), root)
 }
 
 fn run(text: &[u8]) -> Tally {

@@ -33,7 +33,8 @@ returns c =
 returns-2 : tie.Need-returns-2
 unfolding kron
 returns-2 c =
-    let (at-done, kron-into, told, ask-kron, s) : tie.After-done × tie.After-kron-into × tie.After-enum-told × tie.After-ask-kron × tie.Start = search in
+    let (at-done, kron-into, told, ask-kron, s) :
+    tie.After-done × tie.After-kron-into × tie.After-enum-told × tie.After-ask-kron × tie.Start = search in
     let a = s .args in
     let asked = ask-kron .ask-kron in
     output-done ofKron (call (a .m) (a .n) (now (a .a)) (a .p) (a .q) (now (a .b)) (length (now (a .out)))) (asked .result) (asked .ensures) (at-done .done .result .outcome) (now (a .out))
@@ -42,13 +43,5 @@ returns-2 c =
 pub kron-spec : {M : Type 1} → statement M
 kron-spec =
     tie.close
-    (tie.spec
-    (λ c κs. search needs)
-    (λ c. search needs)
-    (λ c κs. search needs)
-    (λ c. search needs)
-    kron-into-requires
-    (λ c κs. search needs)
-    returns
-    (λ c. search needs)
-    returns-2)
+    (tie.spec (λ c κs. search needs) (λ c. search needs) (λ c κs. search needs) (λ c. search needs) kron-into-requires
+    (λ c κs. search needs) returns (λ c. search needs) returns-2)

@@ -1,66 +1,31 @@
--- `sum_rows` meets its contract. The invariant: the first k rows are written, and nothing else is changed. Assumes nothing.
-use Prim.Native.Nat.{_*_, _-_, _<_, _≤_}
+-- `sum_rows` meets its contract, by the loop over the rows of the blocks. Assumes nothing.
+use Prim.Native.Nat.{_+_, _-_, _*_, _≤_}
 use native.Mathlib.Omega.{arith}
-use mathlib.Core.Path.{_≡_}
 use lib.Ieee.{binary64}
-use Rattle.arithmetic_matrices.proofs.MatrixLaws.{row-end}
 use Rattle.functions_kronecker.specs.Kernels.{kronSumEntry}
 use Rattle.arithmetic_matrices.specs.Kernels.{blockRow}
-use Rattle.arithmetic_matrices.proofs.FilledLaws.{Filled, filled-none, filled-more}
+use Rattle.arithmetic_matrices.proofs.MatrixLaws.{row-end}
+use Rattle.arithmetic_matrices.proofs.FilledLaws.{Filled, filled-start, filled-inside, filled-turn, filled-end}
 use Rattle.functions_kronecker.proofs.sum_rows.Statement.{statement}
 use Rattle.functions_kronecker.proofs.sum_rows.Tie as tie
 
 abbrev Inv-loop : tie.InvT-loop
-Inv-loop out₀ y m a i p b width z₀ k₀ out z k = (k ≤ p) × Filled out₀ y k (m * p) (blockRow p (kronSumEntry binary64 m a p b) i) z out
+Inv-loop out₀ y m a i p b width z₀ k₀ out z k = Filled out₀ y p (m * p) (blockRow p (kronSumEntry binary64 m a p b) i) z out k
 
 abbrev μ-loop : tie.MeasureT-loop
 μ-loop out₀ y m a i p b width z₀ k₀ out z k = p - k
 
-loop-holds : tie.Need-loop-holds Inv-loop μ-loop
-loop-holds c = (omega arith, filled-none _ _ _ _)
-
-sum-row-requires : tie.Need-sum-row-requires Inv-loop μ-loop
-sum-row-requires c κs =
-    let at-loop : tie.At-loop Inv-loop μ-loop = search in
+-- in a turn the row lies within the rows that are written, and the row that is read within its matrix
+inside : (t : tie.In-loop Inv-loop μ-loop) →
     let s : tie.Start Inv-loop μ-loop = search in
-    let a = s .args in
-    let less : at-loop .loop .k < a .p = omega arith in
-    omega (arith, row-end (at-loop .loop .k) (a .p) (a .m * a .p) less, row-end (at-loop .loop .k) (a .p) (a .p) less)
-
-add-z : tie.Need-add-z Inv-loop μ-loop
-add-z c =
-    let at-loop : tie.At-loop Inv-loop μ-loop = search in
+    let l = t .before .loop in (l .z + (s .args .m * s .args .p) ≤ s .args .y + s .args .p * (s .args .m * s .args .p)) × (l .k * s .args .p + s .args .p ≤ s .args .p * s .args .p)
+inside t =
     let s : tie.Start Inv-loop μ-loop = search in
-    let a = s .args in
-    let less : at-loop .loop .k < a .p = omega arith in
-    omega (arith, row-end (at-loop .loop .k) (a .p) (a .m * a .p) less)
-
-loop-again : tie.Need-loop-again Inv-loop μ-loop
-loop-again c =
-    let sum-row : tie.After-sum-row Inv-loop μ-loop = search in
-    let at-loop : tie.At-loop Inv-loop μ-loop = search in
-    (omega arith, filled-more _ _ _ _ _ _ _ _ (at-loop .loop .inv .1) (sum-row .sum-row .ensures))
-
-returns : tie.Need-returns Inv-loop μ-loop
-returns c =
-    let head : tie.At-loop Inv-loop μ-loop = search in
-    let s : tie.Start Inv-loop μ-loop = search in
-    let l = head .loop in
-    let e : l .k ≡ s .args .p = omega arith in
-    rw e at (l .inv .1 .list)
+    (filled-inside (t .before .loop .inv) (t .loop-test .taken), row-end (t .before .loop .k) (s .args .p) (s .args .p) (t .loop-test .taken))
 
 pub sum-rows-spec : {M : Type 1} → statement M
 sum-rows-spec =
     tie.close
-    (tie.spec
-    Inv-loop
-    μ-loop
-    (λ c. omega arith)
-    loop-holds
-    sum-row-requires
-    add-z
-    (λ c. omega arith)
-    (λ c. omega arith)
-    loop-again
-    (λ c. omega arith)
-    returns)
+    (tie.spec Inv-loop μ-loop (λ c. omega arith) (λ c. filled-start) (λ c κs. omega (arith, inside (search)))
+    (λ c. omega (arith, inside (search))) (λ c. omega arith) (λ c. omega arith) (λ c. search filled-turn)
+    (λ c. omega arith) (λ c. search filled-end))

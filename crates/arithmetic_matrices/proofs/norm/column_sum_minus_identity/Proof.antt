@@ -1,70 +1,37 @@
--- `column_sum_minus_identity` meets its contract. The invariant: the sum is that of the first i magnitudes, and q is the place of entry i. Assumes nothing.
-use Prim.Native.Nat.{_+_, _-_, _*_, _<_, _≤_}
+-- `column_sum_minus_identity` meets its contract, by a walk down the column and the loop of a sum. Assumes nothing.
+use Prim.Native.Nat.{_+_, _-_, _*_, _<_}
 use native.Mathlib.Omega.{arith}
-use mathlib.Core.Path.{_≡_}
 use lib.Ieee.{binary64}
-use native.Mathlib.Nat.{zero-mul}
+use Rattle.arithmetic_floats.specs.Float.{magnitude}
 use Rattle.arithmetic_matrices.specs.Matrix.{item}
 use Rattle.arithmetic_matrices.specs.Product.{minusIdentityEntry}
 use Rattle.arithmetic_matrices.specs.Norm.{sumOfMagnitudes}
-use Rattle.arithmetic_matrices.proofs.MatrixLaws.{more-rows, index-lt}
-use Rattle.arithmetic_matrices.proofs.NormLaws.{magnitudes-none, magnitudes-more}
+use Rattle.arithmetic_matrices.proofs.LoopLaws.{Down, down-start, down-turn, down-inside, PartialSum, partial-start, partial-turn, partial-end}
 use Rattle.arithmetic_matrices.proofs.norm.column_sum_minus_identity.Statement.{statement}
 use Rattle.arithmetic_matrices.proofs.norm.column_sum_minus_identity.Tie as tie
 
 abbrev Inv-loop : tie.InvT-loop
-Inv-loop w x j n sum₀ q₀ i₀ sum q i = (i ≤ n) × (q ≡ x + (i * n + j)) × (sum ≡ sumOfMagnitudes binary64 i (λ k. minusIdentityEntry binary64 k j (item w (x + (k * n + j)))))
+Inv-loop w x j n sum₀ q₀ i₀ sum q i = Down x n j q i × PartialSum binary64 n (λ k. magnitude (minusIdentityEntry binary64 k j (item w (x + (k * n + j))))) sum i
 
 abbrev μ-loop : tie.MeasureT-loop
 μ-loop w x j n sum₀ q₀ i₀ sum q i = n - i
 
-loop-holds : tie.Need-loop-holds Inv-loop μ-loop
-loop-holds c = let s : tie.Start Inv-loop μ-loop = search in (omega arith, omega (arith, zero-mul (s .args .n)), magnitudes-none binary64 _)
-
 -- in a turn q is within the matrix at x
-inside : (c : tie.In-loop Inv-loop μ-loop) →
-    let s : tie.Start Inv-loop μ-loop = search in
-    c .before .loop .i * s .args .n + s .args .j < s .args .n * s .args .n
-inside c = index-lt (c .loop-test .taken) (omega arith)
-
-mul-minus-identity-entry : tie.Need-mul-minus-identity-entry Inv-loop μ-loop
-mul-minus-identity-entry c = let turn : tie.In-loop Inv-loop μ-loop = search in omega (arith, inside turn)
-
-shared-slice-read-minus-identity-entry : tie.Need-shared-slice-read-minus-identity-entry Inv-loop μ-loop
-shared-slice-read-minus-identity-entry c = let turn : tie.In-loop Inv-loop μ-loop = search in omega (arith, inside turn)
-
-add-q-2 : tie.Need-add-q-2 Inv-loop μ-loop
-add-q-2 c = let turn : tie.In-loop Inv-loop μ-loop = search in omega (arith, inside turn)
+inside : (t : tie.In-loop Inv-loop μ-loop) → let s : tie.Start Inv-loop μ-loop = search in t .before .loop .q < s .args .x + s .args .n * s .args .n
+inside t = down-inside (t .before .loop .inv .0) (t .loop-test .taken)
 
 loop-again : tie.Need-loop-again Inv-loop μ-loop
 loop-again c =
-    let (magnitude, minus, head, s) :
-    tie.After-magnitude Inv-loop μ-loop × tie.After-minus-identity-entry Inv-loop μ-loop × tie.At-loop Inv-loop μ-loop × tie.Start Inv-loop μ-loop = search in
-    let l = head .loop in
-    let a = s .args in
-    (omega arith, omega (arith, more-rows (l .i) (a .n)), rw (magnitude .magnitude .ensures, minus .minus-identity-entry .ensures, l .inv .1, l .inv .2, magnitudes-more))
-
-returns : tie.Need-returns Inv-loop μ-loop
-returns c =
-    let head : tie.At-loop Inv-loop μ-loop = search in
-    let s : tie.Start Inv-loop μ-loop = search in
-    let e : head .loop .i ≡ s .args .n = omega arith in
-    rw e at (head .loop .inv .2)
+    let (size, minus, turn, head) :
+    tie.After-magnitude Inv-loop μ-loop × tie.After-minus-identity-entry Inv-loop μ-loop × tie.In-loop Inv-loop μ-loop × tie.At-loop Inv-loop μ-loop = search in
+    let inv = head .loop .inv in
+    let h = turn .loop-test .taken in
+    (down-turn (inv .0) h, partial-turn (inv .1) h (rw (size .magnitude .ensures, minus .minus-identity-entry .ensures, inv .0 .place)))
 
 pub column-sum-minus-identity-spec : {M : Type 1} → statement M
+unfolding sumOfMagnitudes
 column-sum-minus-identity-spec =
     tie.close
-    (tie.spec
-    Inv-loop
-    μ-loop
-    (λ c. omega arith)
-    loop-holds
-    mul-minus-identity-entry
-    shared-slice-read-minus-identity-entry
-    (λ c κs. tt)
-    (λ c κs. tt)
-    add-q-2
-    (λ c. omega arith)
-    (λ c. omega arith)
-    loop-again
-    returns)
+    (tie.spec Inv-loop μ-loop (λ c. omega arith) (λ c. (down-start (omega arith), partial-start binary64))
+    (λ c. omega (arith, inside (search))) (λ c. omega (arith, inside (search))) (λ c κs. tt) (λ c κs. tt)
+    (λ c. omega (arith, inside (search))) (λ c. omega arith) (λ c. omega arith) loop-again (λ c. search partial-end))

@@ -1,53 +1,33 @@
--- `sum_of_squared_differences` meets its contract. The invariant: the sum is that of the first i squares. Assumes nothing.
-use Prim.Native.Nat.{_+_, _-_, _≤_}
+-- `sum_of_squared_differences` meets its contract, by the loop of a sum. Assumes nothing.
+use Prim.Native.Nat.{ℕ, _+_, _-_}
 use native.Mathlib.Omega.{arith}
-use mathlib.Core.Path.{_≡_}
-use lib.Ieee.{binary64, sub}
+use mathlib.Core.List.{List}
+use lib.Ieee.{Float, binary64, sub, mul}
 use Rattle.arithmetic_matrices.specs.Matrix.{item}
 use Rattle.arithmetic_matrices.specs.Product.{dot}
-use Rattle.arithmetic_matrices.proofs.ProductLaws.{dot-none, dot-more}
 use Rattle.arithmetic_matrices.proofs.NormLaws.{squares-tab}
+use Rattle.arithmetic_matrices.proofs.LoopLaws.{PartialSum, partial-start, partial-turn, partial-end}
 use Rattle.arithmetic_matrices.proofs.norm.sum_of_squared_differences.Statement.{statement}
 use Rattle.arithmetic_matrices.proofs.norm.sum_of_squared_differences.Tie as tie
 
+abbrev difference : List Float → ℕ → ℕ → ℕ → Float
+difference w x y i = sub binary64 (item w (x + i)) (item w (y + i))
+
 abbrev Inv-loop : tie.InvT-loop
-Inv-loop w x y k sum₀ i₀ sum i =
-    (i ≤ k) × (sum ≡ dot binary64 i (λ q. sub binary64 (item w (x + q)) (item w (y + q))) (λ q. sub binary64 (item w (x + q)) (item w (y + q))))
+Inv-loop w x y k sum₀ i₀ sum i = PartialSum binary64 k (λ q. mul binary64 (difference w x y q) (difference w x y q)) sum i
 
 abbrev μ-loop : tie.MeasureT-loop
 μ-loop w x y k sum₀ i₀ sum i = k - i
 
-loop-holds : tie.Need-loop-holds Inv-loop μ-loop
-loop-holds c = (omega arith, dot-none binary64 _ _)
-
-loop-again : tie.Need-loop-again Inv-loop μ-loop
-loop-again c =
-    let head : tie.At-loop Inv-loop μ-loop = search in
-    let l = head .loop in
-    (omega arith, rw (l .inv .1, dot-more))
-
 returns : tie.Need-returns Inv-loop μ-loop
+unfolding dot
 returns c =
-    let head : tie.At-loop Inv-loop μ-loop = search in
-    let s : tie.Start Inv-loop μ-loop = search in
-    let a = s .args in
-    let e : head .loop .i ≡ a .k = omega arith in
-    rw (squares-tab binary64 (a .k) (λ i. sub binary64 (item (a .w .now) (a .x + i)) (item (a .w .now) (a .y + i)))) (rw e at (head .loop .inv .1))
+    let (end, head, s) : tie.After-loop Inv-loop μ-loop × tie.At-loop Inv-loop μ-loop × tie.Start Inv-loop μ-loop = search in
+    rw (squares-tab binary64 (s .args .k) (difference (s .args .w .now) (s .args .x) (s .args .y))) (partial-end (head .loop .inv) (end .loop-test .left))
 
 pub sum-of-squared-differences-spec : {M : Type 1} → statement M
 sum-of-squared-differences-spec =
     tie.close
-    (tie.spec
-    Inv-loop
-    μ-loop
-    loop-holds
-    (λ c. omega arith)
-    (λ c. omega arith)
-    (λ c. omega arith)
-    (λ c. omega arith)
-    (λ c. omega arith)
-    (λ c. omega arith)
-    (λ c. omega arith)
-    (λ c. omega arith)
-    loop-again
-    returns)
+    (tie.spec Inv-loop μ-loop (λ c. partial-start binary64) (λ c. omega arith) (λ c. omega arith) (λ c. omega arith)
+    (λ c. omega arith) (λ c. omega arith) (λ c. omega arith) (λ c. omega arith) (λ c. omega arith)
+    (λ c. search partial-turn) returns)

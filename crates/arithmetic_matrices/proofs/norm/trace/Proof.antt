@@ -1,75 +1,41 @@
--- `trace` meets its contract. The invariant: the sum is that of the first i diagonal entries, and q is the place of the next. Assumes nothing.
-use Prim.Native.Nat.{_+_, _-_, _*_, _<_, _≤_}
+-- `trace` meets its contract, by a walk down the diagonal and the loop of a sum. Assumes nothing.
+use Prim.Native.Nat.{_+_, _-_, _*_, _<_}
 use native.Mathlib.Omega.{arith}
-use mathlib.Core.Path.{_≡_}
+use mathlib.Core.Path.{sym, _∙_, ap}
 use lib.Ieee.{binary64}
-use native.Mathlib.Nat.{zero-mul}
 use Rattle.arithmetic_matrices.specs.Matrix.{item}
-use Rattle.arithmetic_matrices.specs.Product.{sum as sumOf}
 use Rattle.arithmetic_matrices.specs.Workspace.{slot}
-use Rattle.arithmetic_matrices.proofs.MatrixLaws.{index-lt, square-le, more-rows}
-use Rattle.arithmetic_matrices.proofs.ProductLaws.{sum-none, sum-more}
 use Rattle.arithmetic_matrices.proofs.NormLaws.{trace-part}
+use Rattle.arithmetic_matrices.proofs.LoopLaws.{room-few, Diagonal, diagonal-start, diagonal-turn, diagonal-inside, PartialSum, partial-start, partial-turn, partial-end}
 use Rattle.arithmetic_matrices.proofs.norm.trace.Statement.{statement}
 use Rattle.arithmetic_matrices.proofs.norm.trace.Tie as tie
 
 abbrev Inv-loop : tie.InvT-loop
-Inv-loop w a n sum₀ q₀ i₀ sum q i =
-    (i ≤ n) × (n * n ≤ 256) × (q ≡ 256 * a + (i * n + i)) × (sum ≡ sumOf binary64 i (λ k. item w (256 * a + (k * n + k))))
+Inv-loop w a n sum₀ q₀ i₀ sum q i = Diagonal (256 * a) n q i × PartialSum binary64 n (λ k. item w (256 * a + (k * n + k))) sum i
 
 abbrev μ-loop : tie.MeasureT-loop
 μ-loop w a n sum₀ q₀ i₀ sum q i = n - i
 
-loop-holds : tie.Need-loop-holds Inv-loop μ-loop
-loop-holds c =
-    let s : tie.Start Inv-loop μ-loop = search in
-    (omega arith, square-le (s .args .n) (s .pre .0 .order), omega (arith, zero-mul (s .args .n)), sum-none binary64 _)
-
 -- in a turn q is within the matrix
-inside : (c : tie.In-loop Inv-loop μ-loop) →
-    let s : tie.Start Inv-loop μ-loop = search in
-    let n = s .args .n in c .before .loop .i * n + c .before .loop .i < n * n
-inside c = index-lt (c .loop-test .taken) (c .loop-test .taken)
-
-mul-sum : tie.Need-mul-sum Inv-loop μ-loop
-mul-sum c = let turn : tie.In-loop Inv-loop μ-loop = search in omega (arith, inside turn)
-
-shared-slice-read-sum : tie.Need-shared-slice-read-sum Inv-loop μ-loop
-shared-slice-read-sum c = let turn : tie.In-loop Inv-loop μ-loop = search in omega (arith, inside turn)
-
-add-q-2 : tie.Need-add-q-2 Inv-loop μ-loop
-add-q-2 c = let turn : tie.In-loop Inv-loop μ-loop = search in omega (arith, inside turn)
+inside : (t : tie.In-loop Inv-loop μ-loop) → let s : tie.Start Inv-loop μ-loop = search in t .before .loop .q < 256 * s .args .a + s .args .n * s .args .n
+inside t = diagonal-inside (t .before .loop .inv .0) (t .loop-test .taken)
 
 loop-again : tie.Need-loop-again Inv-loop μ-loop
 loop-again c =
-    let head : tie.At-loop Inv-loop μ-loop = search in
-    let s : tie.Start Inv-loop μ-loop = search in
-    let l = head .loop in
-    let a = s .args in
-    (omega arith, l .inv .1, omega (arith, more-rows (l .i) (a .n)), rw (l .inv .2, l .inv .3, sum-more))
+    let (turn, head, s) : tie.In-loop Inv-loop μ-loop × tie.At-loop Inv-loop μ-loop × tie.Start Inv-loop μ-loop = search in
+    let inv = head .loop .inv in
+    let h = turn .loop-test .taken in
+    (diagonal-turn (inv .0) h, partial-turn (inv .1) h (ap (item (s .args .w .now)) (inv .0 .place)))
 
 returns : tie.Need-returns Inv-loop μ-loop
 unfolding slot
 returns c =
-    let head : tie.At-loop Inv-loop μ-loop = search in
-    let s : tie.Start Inv-loop μ-loop = search in
-    let a = s .args in
-    let e : head .loop .i ≡ a .n = omega arith in
-    rw (trace-part binary64 (a .n) (a .w .now) (256 * a .a)) (rw e at (head .loop .inv .3))
+    let (end, head, s) : tie.After-loop Inv-loop μ-loop × tie.At-loop Inv-loop μ-loop × tie.Start Inv-loop μ-loop = search in
+    partial-end (head .loop .inv .1) (end .loop-test .left) ∙ sym (trace-part binary64 (s .args .n) (s .args .w .now) (256 * s .args .a))
 
 pub trace-spec : {M : Type 1} → statement M
 trace-spec =
     tie.close
-    (tie.spec
-    Inv-loop
-    μ-loop
-    (λ c. omega arith)
-    loop-holds
-    mul-sum
-    shared-slice-read-sum
-    (λ c. omega arith)
-    add-q-2
-    (λ c. omega arith)
-    (λ c. omega arith)
-    loop-again
-    returns)
+    (tie.spec Inv-loop μ-loop (λ c. omega arith) (λ c. (diagonal-start, partial-start binary64))
+    (λ c. omega (arith, room-few, inside (search))) (λ c. omega (arith, room-few, inside (search))) (λ c. omega arith)
+    (λ c. omega (arith, room-few, inside (search))) (λ c. omega arith) (λ c. omega arith) loop-again returns)

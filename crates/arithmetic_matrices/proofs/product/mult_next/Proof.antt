@@ -6,8 +6,8 @@ use Rattle.arithmetic_matrices.proofs.ProductLaws.{put-first}
 use Rattle.arithmetic_matrices.proofs.product.mult_next.Statement.{statement}
 use Rattle.arithmetic_matrices.proofs.product.mult_next.Tie as tie
 
-returns-2 : tie.Need-returns-2
-returns-2 c = let row-dot : tie.After-row-dot = search in (omega arith, omega arith, put-first _ _ _ _ (rw add-zero (row-dot .row-dot .ensures)))
+returns-4 : tie.Need-returns-4
+returns-4 c = let row-dot : tie.After-row-dot = search in (omega arith, omega arith, put-first _ _ _ _ (rw add-zero (row-dot .row-dot .ensures)))
 
 pub mult-next-spec : {M : Type 1} → statement M
 mult-next-spec =
@@ -17,9 +17,17 @@ mult-next-spec =
     (λ c κs. search needs)
     (λ c. search needs)
     (λ c. search needs)
+    (λ c. search needs)
+    (λ c κs. search needs)
+    (λ c. search needs)
+    (λ c. search needs)
+    (λ c. search needs)
+    (λ c κs. search needs)
+    (λ c. search needs)
+    (λ c. search needs)
     (λ c κs. search needs)
     (λ c. search needs)
     (λ c. search needs)
     (λ c. search needs)
     (λ c. search needs)
-    returns-2)
+    returns-4)

@@ -1,68 +1,34 @@
--- `accumulate` meets its contract. The invariant: the first k entries are changed, and nothing else. Assumes nothing.
-use Prim.Native.Nat.{_+_, _-_, _*_, _≤_}
+-- `accumulate` meets its contract, by the loop over the entries of a slot. Assumes nothing.
+use Prim.Native.Nat.{_-_}
 use native.Mathlib.Omega.{arith}
-use mathlib.Core.Path.{_≡_, refl}
-use lib.ListN.{length, length-set}
-use lib.Ieee.{Float, binary64, add, mul}
-use Rattle.arithmetic_matrices.specs.Matrix.{tab, item, put}
-use Rattle.arithmetic_matrices.specs.Workspace.{slot, store}
-use Rattle.arithmetic_matrices.proofs.MatrixLaws.{square-le}
-use Rattle.arithmetic_matrices.proofs.PartLaws.{put-none, put-zip-more}
-use Rattle.arithmetic_matrices.proofs.ProductLaws.{product-comm, addMultipleM-parts}
-use Rattle.arithmetic_matrices.proofs.Slots.{slots-apart}
+use mathlib.Core.Path.{_∙_}
+use lib.Ieee.{binary64, add, mul}
+use Rattle.arithmetic_matrices.specs.Matrix.{item}
+use Rattle.arithmetic_matrices.specs.Product.{addMultipleM}
+use Rattle.arithmetic_matrices.specs.Workspace.{slot}
+use Rattle.arithmetic_matrices.proofs.ProductLaws.{product-comm}
+use Rattle.arithmetic_matrices.proofs.LoopLaws.{SlotEntries, room-few, entries-start, entries-turn, entries-end, own-entry, other-entry}
 use Rattle.arithmetic_matrices.proofs.workspace.accumulate.Statement.{statement}
 use Rattle.arithmetic_matrices.proofs.workspace.accumulate.Tie as tie
 
 abbrev Inv-loop : tie.InvT-loop
-Inv-loop w₀ c p by n x y m k₀ w k = (m ≤ 256) × (k ≤ m) × (length w ≡ length w₀) × (w ≡ put w₀ y (tab k (λ i. add binary64 (item w₀ (y + i)) (mul binary64 (item w₀ (x + i)) by))))
+Inv-loop w₀ c p by n x y m k₀ w k = SlotEntries n c (λ i. add binary64 (item (slot n w₀ c) i) (mul binary64 (item (slot n w₀ p) i) by)) w₀ w k
 
 abbrev μ-loop : tie.MeasureT-loop
 μ-loop w₀ c p by n x y m k₀ w k = m - k
 
-mul-m : tie.Need-mul-m Inv-loop μ-loop
-mul-m c = let s : tie.Start Inv-loop μ-loop = search in omega (arith, square-le (s .args .n) (s .pre .0 .order))
-
-loop-holds : tie.Need-loop-holds Inv-loop μ-loop
-loop-holds c = let s : tie.Start Inv-loop μ-loop = search in (square-le (s .args .n) (s .pre .0 .order), omega arith, refl, put-none _ _ _)
-
 loop-again : tie.Need-loop-again Inv-loop μ-loop
 loop-again c =
     let (turn, head, s) : tie.In-loop Inv-loop μ-loop × tie.At-loop Inv-loop μ-loop × tie.Start Inv-loop μ-loop = search in
-    let l = head .loop in
-    let a = s .args in
-    let apart = slots-apart (a .p) (a .c) (a .n * a .n) (a .n * a .n) (s .pre .1 .2) (l .inv .0) (l .inv .0) in
-    (l .inv .0, omega arith, simp length-set (l .inv .2), rw (product-comm binary64 (a .by), l .inv .3) (put-zip-more _ _ _ _ _ (λ (u v : Float). add binary64 u (mul binary64 v (a .by))) apart (turn .loop-test .taken)))
-
-returns : tie.Need-returns Inv-loop μ-loop
-unfolding slot store
-returns c =
-    let head : tie.At-loop Inv-loop μ-loop = search in
-    let s : tie.Start Inv-loop μ-loop = search in
-    let a = s .args in
-    let e : head .loop .k ≡ a .n * a .n = omega arith in
-    rw (addMultipleM-parts binary64 (a .n) (a .by) (a .w .now) (256 * a .p) (256 * a .c)) (rw e at (head .loop .inv .3))
+    let e = head .loop .inv in
+    let h = turn .loop-test .taken in
+    entries-turn e h (λ i. add binary64 (own-entry e h i) ((product-comm binary64 (s .args .by) _ ∙ (λ j. mul binary64 (other-entry e (s .args .p) (s .pre .1 .2) h j) (s .args .by))) i))
 
 pub accumulate-spec : {M : Type 1} → statement M
+unfolding addMultipleM
 accumulate-spec =
     tie.close
-    (tie.spec
-    Inv-loop
-    μ-loop
-    (λ c. omega arith)
-    (λ c. omega arith)
-    mul-m
-    loop-holds
-    (λ c. omega arith)
-    (λ c. omega arith)
-    (λ c. omega arith)
-    (λ c. omega arith)
-    (λ c. omega arith)
-    (λ c. omega arith)
-    (λ c. omega arith)
-    (λ c. omega arith)
-    (λ c. omega arith)
-    (λ c. omega arith)
-    (λ c. omega arith)
-    loop-again
-    (λ c. omega arith)
-    returns)
+    (tie.spec Inv-loop μ-loop (λ c. omega arith) (λ c. omega arith) (λ c. omega (arith, room-few))
+    (λ c. entries-start search) (λ c. omega arith) (λ c. omega arith) (λ c. omega arith) (λ c. omega arith)
+    (λ c. omega arith) (λ c. omega arith) (λ c. omega arith) (λ c. omega arith) (λ c. omega arith) (λ c. omega arith)
+    (λ c. omega arith) loop-again (λ c. omega arith) (λ c. search entries-end))

@@ -1,64 +1,33 @@
--- `copy` meets its contract. The invariant: the first k entries are copied, and nothing else is changed. Assumes nothing.
-use Prim.Native.Nat.{_+_, _-_, _*_, _≤_}
+-- `copy` meets its contract, by the loop over the entries of a slot. Assumes nothing.
+use Prim.Native.Nat.{_+_, _-_, _*_}
 use native.Mathlib.Omega.{arith}
-use mathlib.Core.Path.{_≡_, refl}
-use lib.ListN.{length, getD, length-set}
-use lib.Ieee.{nan}
-use Rattle.arithmetic_matrices.specs.Matrix.{tab, put, part}
-use Rattle.arithmetic_matrices.specs.Workspace.{slot, store}
-use Rattle.arithmetic_matrices.proofs.MatrixLaws.{square-le}
-use Rattle.arithmetic_matrices.proofs.PartLaws.{put-none, put-store, read-apart}
-use Rattle.arithmetic_matrices.proofs.Slots.{slots-apart}
+use mathlib.Core.Path.{_∙_}
+use Rattle.arithmetic_matrices.specs.Matrix.{item, part}
+use Rattle.arithmetic_matrices.specs.Workspace.{slot}
+use Rattle.arithmetic_matrices.proofs.PartLaws.{getD-part}
+use Rattle.arithmetic_matrices.proofs.LoopLaws.{SlotEntries, room-few, entries-start, entries-turn, entries-end, other-entry}
 use Rattle.arithmetic_matrices.proofs.workspace.copy.Statement.{statement}
 use Rattle.arithmetic_matrices.proofs.workspace.copy.Tie as tie
 
 abbrev Inv-loop : tie.InvT-loop
-Inv-loop w₀ a c n x y m k₀ w k = (m ≤ 256) × (k ≤ m) × (length w ≡ length w₀) × (w ≡ put w₀ y (tab k (λ i. getD w₀ (x + i) nan)))
+Inv-loop w₀ a c n x y m k₀ w k = SlotEntries n c (λ i. item w₀ (x + i)) w₀ w k
 
 abbrev μ-loop : tie.MeasureT-loop
 μ-loop w₀ a c n x y m k₀ w k = m - k
 
-mul-m : tie.Need-mul-m Inv-loop μ-loop
-mul-m c = let s : tie.Start Inv-loop μ-loop = search in omega (arith, square-le (s .args .n) (s .pre .0 .order))
-
-loop-holds : tie.Need-loop-holds Inv-loop μ-loop
-loop-holds c = let s : tie.Start Inv-loop μ-loop = search in (square-le (s .args .n) (s .pre .0 .order), omega arith, refl, put-none _ _ _)
-
 loop-again : tie.Need-loop-again Inv-loop μ-loop
+unfolding slot
 loop-again c =
     let (turn, head, s) : tie.In-loop Inv-loop μ-loop × tie.At-loop Inv-loop μ-loop × tie.Start Inv-loop μ-loop = search in
-    let l = head .loop in
-    let pre = s .pre in
-    let k<m = turn .loop-test .taken in
-    (l .inv .0, omega arith, simp length-set (l .inv .2), rw (l .inv .3) (put-store _ _ _ _ _ (read-apart _ _ _ _ _ _ (slots-apart _ _ _ _ (pre .1 .2) (l .inv .0) (l .inv .0)) k<m)))
-
-returns : tie.Need-returns Inv-loop μ-loop
-unfolding slot store part
-returns c =
-    let head : tie.At-loop Inv-loop μ-loop = search in
-    let s : tie.Start Inv-loop μ-loop = search in
-    let a = s .args in
-    let e : head .loop .k ≡ a .n * a .n = omega arith in
-    rw e at (head .loop .inv .3)
+    let e = head .loop .inv in
+    let h = turn .loop-test .taken in
+    entries-turn e h (other-entry e (s .args .a) (s .pre .1 .2) h ∙ getD-part (s .args .w .now) (256 * s .args .a) _ _ h)
 
 pub copy-spec : {M : Type 1} → statement M
+unfolding slot part
 copy-spec =
     tie.close
-    (tie.spec
-    Inv-loop
-    μ-loop
-    (λ c. omega arith)
-    (λ c. omega arith)
-    mul-m
-    loop-holds
-    (λ c. omega arith)
-    (λ c. omega arith)
-    (λ c. omega arith)
-    (λ c. omega arith)
-    (λ c. omega arith)
-    (λ c. omega arith)
-    (λ c. omega arith)
-    (λ c. omega arith)
-    loop-again
-    (λ c. omega arith)
-    returns)
+    (tie.spec Inv-loop μ-loop (λ c. omega arith) (λ c. omega arith) (λ c. omega (arith, room-few))
+    (λ c. entries-start search) (λ c. omega arith) (λ c. omega arith) (λ c. omega arith) (λ c. omega arith)
+    (λ c. omega arith) (λ c. omega arith) (λ c. omega arith) (λ c. omega arith) loop-again (λ c. omega arith)
+    (λ c. search entries-end))

@@ -1,68 +1,32 @@
--- `difference_quotient` meets its contract. The invariant: the first k entries are changed, and nothing else. Assumes nothing.
-use Prim.Native.Nat.{_+_, _-_, _*_, _≤_}
+-- `difference_quotient` meets its contract, by the loop over the entries of a slot. Assumes nothing.
+use Prim.Native.Nat.{_-_}
 use native.Mathlib.Omega.{arith}
-use mathlib.Core.Path.{_≡_, refl}
-use lib.ListN.{length, length-set}
-use lib.Ieee.{Float, binary64, sub, div}
-use Rattle.arithmetic_matrices.specs.Matrix.{tab, item, put}
-use Rattle.arithmetic_matrices.specs.Workspace.{slot, store}
-use Rattle.arithmetic_matrices.proofs.MatrixLaws.{square-le}
-use Rattle.arithmetic_matrices.proofs.PartLaws.{put-none, put-zip-more}
-use Rattle.arithmetic_matrices.proofs.ProductLaws.{differenceQuotientM-parts}
-use Rattle.arithmetic_matrices.proofs.Slots.{slots-apart}
+use lib.Ieee.{binary64, sub, div}
+use Rattle.arithmetic_matrices.specs.Matrix.{item}
+use Rattle.arithmetic_matrices.specs.Product.{differenceQuotientM}
+use Rattle.arithmetic_matrices.specs.Workspace.{slot}
+use Rattle.arithmetic_matrices.proofs.LoopLaws.{SlotEntries, room-few, entries-start, entries-turn, entries-end, own-entry, other-entry}
 use Rattle.arithmetic_matrices.proofs.workspace.difference_quotient.Statement.{statement}
 use Rattle.arithmetic_matrices.proofs.workspace.difference_quotient.Tie as tie
 
 abbrev Inv-loop : tie.InvT-loop
-Inv-loop w₀ c b h n x y m k₀ w k = (m ≤ 256) × (k ≤ m) × (length w ≡ length w₀) × (w ≡ put w₀ y (tab k (λ i. div binary64 (sub binary64 (item w₀ (y + i)) (item w₀ (x + i))) h)))
+Inv-loop w₀ c b h n x y m k₀ w k = SlotEntries n c (λ i. div binary64 (sub binary64 (item (slot n w₀ c) i) (item (slot n w₀ b) i)) h) w₀ w k
 
 abbrev μ-loop : tie.MeasureT-loop
 μ-loop w₀ c b h n x y m k₀ w k = m - k
 
-mul-m : tie.Need-mul-m Inv-loop μ-loop
-mul-m c = let s : tie.Start Inv-loop μ-loop = search in omega (arith, square-le (s .args .n) (s .pre .0 .order))
-
-loop-holds : tie.Need-loop-holds Inv-loop μ-loop
-loop-holds c = let s : tie.Start Inv-loop μ-loop = search in (square-le (s .args .n) (s .pre .0 .order), omega arith, refl, put-none _ _ _)
-
 loop-again : tie.Need-loop-again Inv-loop μ-loop
 loop-again c =
     let (turn, head, s) : tie.In-loop Inv-loop μ-loop × tie.At-loop Inv-loop μ-loop × tie.Start Inv-loop μ-loop = search in
-    let l = head .loop in
-    let a = s .args in
-    let apart = slots-apart (a .b) (a .c) (a .n * a .n) (a .n * a .n) (s .pre .1 .2) (l .inv .0) (l .inv .0) in
-    (l .inv .0, omega arith, simp length-set (l .inv .2), rw (l .inv .3) (put-zip-more _ _ _ _ _ (λ (u v : Float). div binary64 (sub binary64 u v) (a .h)) apart (turn .loop-test .taken)))
-
-returns : tie.Need-returns Inv-loop μ-loop
-unfolding slot store
-returns c =
-    let head : tie.At-loop Inv-loop μ-loop = search in
-    let s : tie.Start Inv-loop μ-loop = search in
-    let a = s .args in
-    let e : head .loop .k ≡ a .n * a .n = omega arith in
-    rw (differenceQuotientM-parts binary64 (a .n) (a .h) (a .w .now) (256 * a .c) (256 * a .b)) (rw e at (head .loop .inv .3))
+    let e = head .loop .inv in
+    let h = turn .loop-test .taken in
+    entries-turn e h (λ i. div binary64 (sub binary64 (own-entry e h i) (other-entry e (s .args .b) (s .pre .1 .2) h i)) (s .args .h))
 
 pub difference-quotient-spec : {M : Type 1} → statement M
+unfolding differenceQuotientM
 difference-quotient-spec =
     tie.close
-    (tie.spec
-    Inv-loop
-    μ-loop
-    (λ c. omega arith)
-    (λ c. omega arith)
-    mul-m
-    loop-holds
-    (λ c. omega arith)
-    (λ c. omega arith)
-    (λ c. omega arith)
-    (λ c. omega arith)
-    (λ c. omega arith)
-    (λ c. omega arith)
-    (λ c. omega arith)
-    (λ c. omega arith)
-    (λ c. omega arith)
-    (λ c. omega arith)
-    (λ c. omega arith)
-    loop-again
-    (λ c. omega arith)
-    returns)
+    (tie.spec Inv-loop μ-loop (λ c. omega arith) (λ c. omega arith) (λ c. omega (arith, room-few))
+    (λ c. entries-start search) (λ c. omega arith) (λ c. omega arith) (λ c. omega arith) (λ c. omega arith)
+    (λ c. omega arith) (λ c. omega arith) (λ c. omega arith) (λ c. omega arith) (λ c. omega arith) (λ c. omega arith)
+    (λ c. omega arith) loop-again (λ c. omega arith) (λ c. search entries-end))

@@ -54,14 +54,5 @@ returns c =
 pub square-spec : {M : Type 1} → statement M
 square-spec =
     tie.close
-    (tie.spec
-    Inv-loop
-    μ-loop
-    loop-holds
-    mult-requires
-    copy-requires
-    (λ c. omega arith)
-    (λ c. omega arith)
-    loop-again
-    same-length
-    returns)
+    (tie.spec Inv-loop μ-loop loop-holds mult-requires copy-requires (λ c. omega arith) (λ c. omega arith) loop-again
+    same-length returns)

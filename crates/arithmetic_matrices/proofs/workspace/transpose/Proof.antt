@@ -1,88 +1,47 @@
--- `transpose` meets its contract. The invariant: the first i rows are written, and nothing else is changed. Assumes nothing.
+-- `transpose` meets its contract, by the loop over the rows of a slot. Assumes nothing.
 use Prim.Native.Nat.{_+_, _-_, _*_, _≤_}
-use native.Mathlib.Nat.{zero-mul}
 use native.Mathlib.Omega.{arith}
-use mathlib.Core.Path.{_≡_, refl, _∙_}
-use lib.ListN.{length}
-use Rattle.arithmetic_matrices.specs.Matrix.{grid, item, put, Apart}
-use Rattle.arithmetic_matrices.specs.Workspace.{slot, store}
-use Rattle.arithmetic_matrices.proofs.MatrixLaws.{row-end, more-rows, square-le}
-use Rattle.arithmetic_matrices.proofs.PartLaws.{put-no-row, apart-within}
-use Rattle.arithmetic_matrices.proofs.ProductLaws.{transposeM-part, transposeM-row}
+use mathlib.Core.Path.{_∙_, ap}
+use Rattle.arithmetic_matrices.specs.Matrix.{at, put}
+use Rattle.arithmetic_matrices.specs.Product.{transposeM}
+use Rattle.arithmetic_matrices.specs.Workspace.{slot}
+use Rattle.arithmetic_matrices.proofs.MatrixLaws.{tab-cong}
+use Rattle.arithmetic_matrices.proofs.PartLaws.{apart-within}
 use Rattle.arithmetic_matrices.proofs.Slots.{slots-apart}
+use Rattle.arithmetic_matrices.proofs.FilledLaws.{filled-inside}
+use Rattle.arithmetic_matrices.proofs.LoopLaws.{SlotRows, slot-rows-start, slot-rows-turn, slot-rows-end, other-at}
 use Rattle.arithmetic_matrices.proofs.workspace.transpose.Statement.{statement}
 use Rattle.arithmetic_matrices.proofs.workspace.transpose.Tie as tie
 
 abbrev Inv-loop : tie.InvT-loop
-Inv-loop w₀ a c n x y₀ i₀ w y i = (n * n ≤ 256) × (i ≤ n) × (length w ≡ length w₀) × (y ≡ 256 * c + i * n) × (w ≡ put w₀ (256 * c) (grid i n (λ r j. item w₀ (256 * a + (j * n + r)))))
+Inv-loop w₀ a c n x y₀ i₀ w y i = SlotRows n c (λ r j. at n (slot n w₀ a) j r) w₀ w y i
 
 abbrev μ-loop : tie.MeasureT-loop
 μ-loop w₀ a c n x y₀ i₀ w y i = n - i
 
-loop-holds : tie.Need-loop-holds Inv-loop μ-loop
-loop-holds c =
-    let s : tie.Start Inv-loop μ-loop = search in
-    (square-le (s .args .n) (s .pre .0 .order), omega arith, refl, omega (arith, zero-mul (s .args .n)), put-no-row _ _ _ _)
-
 -- in a turn row i lies within its matrix
-rows : (c : tie.In-loop Inv-loop μ-loop) →
-    let s : tie.Start Inv-loop μ-loop = search in
-    let n = s .args .n in c .before .loop .i * n + n ≤ n * n
-rows c = let s : tie.Start Inv-loop μ-loop = search in let n = s .args .n in row-end (c .before .loop .i) n n (c .loop-test .taken)
-
--- the two matrices are apart
-apart : (c : tie.In-loop Inv-loop μ-loop) →
-    let s : tie.Start Inv-loop μ-loop = search in
-    let a = s .args in Apart (256 * a .a) (a .n * a .n) (256 * a .c) (a .n * a .n)
-apart c =
-    let s : tie.Start Inv-loop μ-loop = search in
-    let small = c .before .loop .inv .0 in
-    slots-apart (s .args .a) (s .args .c) _ _ (s .pre .1 .2) small small
+inside : (t : tie.In-loop Inv-loop μ-loop) → let s : tie.Start Inv-loop μ-loop = search in t .before .loop .y + s .args .n ≤ 256 * s .args .c + s .args .n * s .args .n
+inside t = filled-inside (t .before .loop .inv .filled) (t .loop-test .taken)
 
 transpose-row-requires : tie.Need-transpose-row-requires Inv-loop μ-loop
 transpose-row-requires c κs =
-    let turn : tie.In-loop Inv-loop μ-loop = search in
-    let r = rows turn in
-    (omega arith, apart-within _ _ _ _ _ _ _ _ (apart turn) (omega arith) (omega arith) (omega arith) (omega arith))
-
-add-y : tie.Need-add-y Inv-loop μ-loop
-add-y c = let turn : tie.In-loop Inv-loop μ-loop = search in omega (arith, rows turn)
+    let (turn, head, s) : tie.In-loop Inv-loop μ-loop × tie.At-loop Inv-loop μ-loop × tie.Start Inv-loop μ-loop = search in
+    let few = head .loop .inv .few in
+    let r = inside turn in
+    (omega arith, apart-within _ _ _ _ _ _ _ _ (slots-apart (s .args .a) (s .args .c) _ _ (s .pre .1 .2) few few) (omega arith) (omega arith) (omega arith) (omega arith))
 
 loop-again : tie.Need-loop-again Inv-loop μ-loop
 loop-again c =
-    let (transpose-row, in-loop, head, s) :
+    let (transpose-row, turn, head, s) :
     tie.After-transpose-row Inv-loop μ-loop × tie.In-loop Inv-loop μ-loop × tie.At-loop Inv-loop μ-loop × tie.Start Inv-loop μ-loop = search in
     let l = head .loop in
-    let a = s .args in (
-      l .inv .0,
-      omega arith,
-      transpose-row .transpose-row .kept .0 ∙ l .inv .2,
-      omega (arith, more-rows (l .i) (a .n)),
-      rw (transpose-row .transpose-row .ensures, l .inv .3, l .inv .4) (transposeM-row (a .n) (a .w .now) (256 * a .a) (256 * a .c) (l .i) (in-loop .loop-test .taken) (apart in-loop)),
-    )
-
-returns : tie.Need-returns Inv-loop μ-loop
-unfolding slot store
-returns c =
-    let head : tie.At-loop Inv-loop μ-loop = search in
-    let s : tie.Start Inv-loop μ-loop = search in
-    let a = s .args in
-    let e : head .loop .i ≡ a .n = omega arith in
-    rw (transposeM-part (a .n) (a .w .now) (256 * a .a)) (rw e at (head .loop .inv .4))
+    let h = turn .loop-test .taken in
+    slot-rows-turn (l .inv) h (transpose-row .transpose-row .ensures ∙ ap (put (l .w) (l .y)) (tab-cong (s .args .n) _ _ (λ j hj. other-at (l .inv) (s .args .a) j (l .i) (s .pre .1 .2) hj h)))
 
 pub transpose-spec : {M : Type 1} → statement M
+unfolding transposeM
 transpose-spec =
     tie.close
-    (tie.spec
-    Inv-loop
-    μ-loop
-    (λ c. omega arith)
-    (λ c. omega arith)
-    loop-holds
-    transpose-row-requires
-    add-y
-    (λ c. omega arith)
-    (λ c. omega arith)
-    loop-again
-    (λ c. omega arith)
-    returns)
+    (tie.spec Inv-loop μ-loop (λ c. omega arith) (λ c. omega arith) (λ c. slot-rows-start search)
+    transpose-row-requires (λ c. omega (arith, inside (search))) (λ c. omega arith) (λ c. omega arith) loop-again
+    (λ c. omega arith) (λ c. search slot-rows-end))

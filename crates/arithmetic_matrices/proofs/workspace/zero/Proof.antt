@@ -1,60 +1,29 @@
--- `zero` meets its contract. The invariant: the first k entries are +0, and nothing else is changed. Assumes nothing.
-use Prim.Native.Nat.{_-_, _*_, _≤_}
+-- `zero` meets its contract, by the loop over the entries of a slot. Assumes nothing.
+use Prim.Native.Nat.{_-_}
 use native.Mathlib.Omega.{arith}
-use mathlib.Core.Path.{_≡_, refl}
-use lib.ListN.{length, length-set}
 use lib.Ieee.{binary64}
 use Rattle.arithmetic_floats.specs.Float.{+zero}
 use Rattle.arithmetic_floats.proofs.Constants.{+zero-bits}
-use Rattle.arithmetic_matrices.specs.Matrix.{tab, put}
 use Rattle.arithmetic_matrices.specs.Product.{zeroM}
-use Rattle.arithmetic_matrices.specs.Workspace.{slot, store}
-use Rattle.arithmetic_matrices.proofs.MatrixLaws.{square-le}
-use Rattle.arithmetic_matrices.proofs.PartLaws.{put-none, put-store}
+use Rattle.arithmetic_matrices.proofs.LoopLaws.{SlotEntries, room-few, entries-start, entries-turn, entries-end}
 use Rattle.arithmetic_matrices.proofs.workspace.zero.Statement.{statement}
 use Rattle.arithmetic_matrices.proofs.workspace.zero.Tie as tie
 
 abbrev Inv-loop : tie.InvT-loop
-Inv-loop w₀ a n x m k₀ w k = (m ≤ 256) × (k ≤ m) × (length w ≡ length w₀) × (w ≡ put w₀ x (tab k (λ i. +zero)))
+Inv-loop w₀ a n x m k₀ w k = SlotEntries n a (λ i. +zero) w₀ w k
 
 abbrev μ-loop : tie.MeasureT-loop
 μ-loop w₀ a n x m k₀ w k = m - k
 
-mul-m : tie.Need-mul-m Inv-loop μ-loop
-mul-m c = let s : tie.Start Inv-loop μ-loop = search in omega (arith, square-le (s .args .n) (s .pre .0 .order))
-
-loop-holds : tie.Need-loop-holds Inv-loop μ-loop
-loop-holds c = let s : tie.Start Inv-loop μ-loop = search in (square-le (s .args .n) (s .pre .0 .order), omega arith, refl, put-none _ _ _)
-
 loop-again : tie.Need-loop-again Inv-loop μ-loop
 loop-again c =
-    let head : tie.At-loop Inv-loop μ-loop = search in
-    let l = head .loop in
-    (l .inv .0, omega arith, simp length-set (l .inv .2), rw (l .inv .3) (put-store _ _ _ (λ i. +zero) _ (+zero-bits binary64)))
-
-returns : tie.Need-returns Inv-loop μ-loop
-unfolding slot store zeroM
-returns c =
-    let head : tie.At-loop Inv-loop μ-loop = search in
-    let s : tie.Start Inv-loop μ-loop = search in
-    let a = s .args in
-    let e : head .loop .k ≡ a .n * a .n = omega arith in
-    rw e at (head .loop .inv .3)
+    let (turn, head) : tie.In-loop Inv-loop μ-loop × tie.At-loop Inv-loop μ-loop = search in
+    entries-turn (head .loop .inv) (turn .loop-test .taken) (+zero-bits binary64)
 
 pub zero-spec : {M : Type 1} → statement M
+unfolding zeroM
 zero-spec =
     tie.close
-    (tie.spec
-    Inv-loop
-    μ-loop
-    (λ c. omega arith)
-    mul-m
-    loop-holds
-    (λ c. omega arith)
-    (λ c. omega arith)
-    (λ c. omega arith)
-    (λ c. omega arith)
-    (λ c. omega arith)
-    loop-again
-    (λ c. omega arith)
-    returns)
+    (tie.spec Inv-loop μ-loop (λ c. omega arith) (λ c. omega (arith, room-few)) (λ c. entries-start search)
+    (λ c. omega arith) (λ c. omega arith) (λ c. omega arith) (λ c. omega arith) (λ c. omega arith) loop-again
+    (λ c. omega arith) (λ c. search entries-end))

@@ -18,7 +18,7 @@ solve-into-requires c κs =
     let a = start .args in
     let asked = ask-solve .ask-solve in
     let s = solve-passed (a .rows) (a .columns) (now (a .f)) (now (a .pivots)) (asked .result) (told .enum-told .given .1) (a .height) (a .width) (now (a .b)) (length (now (a .out))) (asked .ensures) in
-    (s .given .system .small, s .given .system .matrix, s .right, s .solution, s .given .system .pivots, s .given .named)
+    (s .given .system .matrix, s .right, s .solution, s .given .system .pivots, s .given .named)
 
 returns : tie.Need-returns
 unfolding solve

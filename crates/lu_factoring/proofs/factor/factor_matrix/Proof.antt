@@ -12,11 +12,6 @@ Inv-loop m₀ n pivots₀ tol k₀ m pivots k = Columns binary64 n m₀ pivots�
 abbrev μ-loop : tie.MeasureT-loop
 μ-loop m₀ n pivots₀ tol k₀ m pivots k = n - k
 
-loop-holds : tie.Need-loop-holds Inv-loop μ-loop
-loop-holds c =
-    let s : tie.Start Inv-loop μ-loop = search in
-    columns-start binary64 (s .args .n) (s .args .m .now) (s .args .pivots .now) (s .pre .1) (s .pre .2)
-
 returns : tie.Need-returns Inv-loop μ-loop
 returns c =
     let (taken1, magnitude1, entry1, pivot, turn, head, first) :
@@ -34,33 +29,10 @@ loop-again c =
     columns-passed binary64 _ _ _ _ _ (head .loop .inv) (turn .loop-test .taken) (pivot .find-pivot .ensures .0) (entry1 .entry .ensures) (magnitude1 .magnitude .ensures) (first .tolerance .ensures)
     _ _ (left1 .if1 .left) (swap .swap-rows .ensures) (eliminate1 .eliminate .ensures)
 
-returns-2 : tie.Need-returns-2 Inv-loop μ-loop
-returns-2 c =
-    let end : tie.After-loop Inv-loop μ-loop = search in
-    let head : tie.At-loop Inv-loop μ-loop = search in
-    columns-end binary64 _ (head .loop .inv) (end .loop-test .left)
-
 pub factor-matrix-spec : {M : Type 1} → statement M
 factor-matrix-spec =
     tie.close
-    (tie.spec
-    Inv-loop
-    μ-loop
-    (λ c κs. search needs)
-    loop-holds
-    (λ c κs. search needs)
-    (λ c κs. search needs)
-    (λ c κs. search needs)
-    (λ c. search needs)
-    (λ c. search needs)
-    returns
-    (λ c. search needs)
-    (λ c. search needs)
-    (λ c κs. search needs)
-    (λ c κs. search needs)
-    (λ c. search needs)
-    (λ c. search needs)
-    loop-again
-    (λ c. search needs)
-    (λ c. search needs)
-    returns-2)
+    (tie.spec Inv-loop μ-loop (λ c κs. search needs) (λ c. search columns-start) (λ c κs. search needs)
+    (λ c κs. search needs) (λ c κs. search needs) (λ c. search needs) (λ c. search needs) returns (λ c. search needs)
+    (λ c. search needs) (λ c κs. search needs) (λ c κs. search needs) (λ c. search needs) (λ c. search needs)
+    loop-again (λ c. search needs) (λ c. search needs) (λ c. search columns-end))

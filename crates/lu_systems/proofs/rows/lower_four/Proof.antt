@@ -37,10 +37,10 @@ loop-holds c =
     let a = s .args in (
       omega arith,
       omega (arith, zero-mul (a .m)),
-      lower-none binary64 (a .m) (a .w .now) (a .q) (a .x) (a .y) (a .j + 0) _ (omega arith),
-      lower-none binary64 (a .m) (a .w .now) (a .q) (a .x) (a .y) (a .j + 1) _ (omega arith),
-      lower-none binary64 (a .m) (a .w .now) (a .q) (a .x) (a .y) (a .j + 2) _ (omega arith),
-      lower-none binary64 (a .m) (a .w .now) (a .q) (a .x) (a .y) (a .j + 3) _ (omega arith),
+      lower-none binary64 (a .m) (a .w .now) (a .w .now) (a .q) (a .x) (a .y) (a .j + 0) _ (omega arith),
+      lower-none binary64 (a .m) (a .w .now) (a .w .now) (a .q) (a .x) (a .y) (a .j + 1) _ (omega arith),
+      lower-none binary64 (a .m) (a .w .now) (a .w .now) (a .q) (a .x) (a .y) (a .j + 2) _ (omega arith),
+      lower-none binary64 (a .m) (a .w .now) (a .w .now) (a .q) (a .x) (a .y) (a .j + 3) _ (omega arith),
     )
 
 loop-again : tie.Need-loop-again Inv-loop μ-loop
@@ -52,10 +52,10 @@ loop-again c =
     let h = more-rows (l .i) (a .m) in (
       omega arith,
       omega arith,
-      lower-turn binary64 _ (a .m) (a .w .now) (a .q) (a .x) (a .y) (a .j + 0) _ _ (l .inv .2) (omega arith),
-      lower-turn binary64 _ (a .m) (a .w .now) (a .q) (a .x) (a .y) (a .j + 1) _ _ (l .inv .3) (omega arith),
-      lower-turn binary64 _ (a .m) (a .w .now) (a .q) (a .x) (a .y) (a .j + 2) _ _ (l .inv .4) (omega arith),
-      lower-turn binary64 _ (a .m) (a .w .now) (a .q) (a .x) (a .y) (a .j + 3) _ _ (l .inv .5) (omega arith),
+      lower-turn binary64 _ (a .m) (a .w .now) (a .w .now) (a .q) (a .x) (a .y) (a .j + 0) _ _ (l .inv .2) (omega arith),
+      lower-turn binary64 _ (a .m) (a .w .now) (a .w .now) (a .q) (a .x) (a .y) (a .j + 1) _ _ (l .inv .3) (omega arith),
+      lower-turn binary64 _ (a .m) (a .w .now) (a .w .now) (a .q) (a .x) (a .y) (a .j + 2) _ _ (l .inv .4) (omega arith),
+      lower-turn binary64 _ (a .m) (a .w .now) (a .w .now) (a .q) (a .x) (a .y) (a .j + 3) _ _ (l .inv .5) (omega arith),
     )
 
 returns : tie.Need-returns Inv-loop μ-loop
@@ -65,10 +65,10 @@ returns c =
     let l = head .loop in
     let a = s .args in
     let e : l .i ≡ a .k = omega arith in
-    let d0 = lower-done binary64 _ _ (a .m) (a .w .now) (a .q) (a .x) (a .y) (a .j + 0) _ e (l .inv .2) in
-    let d1 = lower-done binary64 _ _ (a .m) (a .w .now) (a .q) (a .x) (a .y) (a .j + 1) _ e (l .inv .3) in
-    let d2 = lower-done binary64 _ _ (a .m) (a .w .now) (a .q) (a .x) (a .y) (a .j + 2) _ e (l .inv .4) in
-    let d3 = lower-done binary64 _ _ (a .m) (a .w .now) (a .q) (a .x) (a .y) (a .j + 3) _ e (l .inv .5) in
+    let d0 = lower-done binary64 _ _ (a .m) (a .w .now) (a .w .now) (a .q) (a .x) (a .y) (a .j + 0) _ e (l .inv .2) in
+    let d1 = lower-done binary64 _ _ (a .m) (a .w .now) (a .w .now) (a .q) (a .x) (a .y) (a .j + 1) _ e (l .inv .3) in
+    let d2 = lower-done binary64 _ _ (a .m) (a .w .now) (a .w .now) (a .q) (a .x) (a .y) (a .j + 2) _ e (l .inv .4) in
+    let d3 = lower-done binary64 _ _ (a .m) (a .w .now) (a .w .now) (a .q) (a .x) (a .y) (a .j + 3) _ e (l .inv .5) in
     put-next 3 _ _ _ _ _ (put-next 2 _ _ _ _ _ (put-next 1 _ _ _ _ _ (put-first _ _ _ _ d0) d1) d2) d3
 
 pub lower-four-spec : {M : Type 1} → statement M

@@ -34,7 +34,7 @@ loop-holds c =
     let a = s .args in (
       omega arith,
       omega (arith, zero-mul (a .m)),
-      lower-none binary64 (a .m) (a .w .now) (a .q) (a .x) (a .y) (a .j + 0) _ (omega arith),
+      lower-none binary64 (a .m) (a .w .now) (a .w .now) (a .q) (a .x) (a .y) (a .j + 0) _ (omega arith),
     )
 
 loop-again : tie.Need-loop-again Inv-loop μ-loop
@@ -46,7 +46,7 @@ loop-again c =
     let h = more-rows (l .i) (a .m) in (
       omega arith,
       omega arith,
-      lower-turn binary64 _ (a .m) (a .w .now) (a .q) (a .x) (a .y) (a .j + 0) _ _ (l .inv .2) (omega arith),
+      lower-turn binary64 _ (a .m) (a .w .now) (a .w .now) (a .q) (a .x) (a .y) (a .j + 0) _ _ (l .inv .2) (omega arith),
     )
 
 returns : tie.Need-returns Inv-loop μ-loop
@@ -56,7 +56,7 @@ returns c =
     let l = head .loop in
     let a = s .args in
     let e : l .i ≡ a .k = omega arith in
-    put-first _ _ _ _ (lower-done binary64 _ _ (a .m) (a .w .now) (a .q) (a .x) (a .y) (a .j + 0) _ e (l .inv .2))
+    put-first _ _ _ _ (lower-done binary64 _ _ (a .m) (a .w .now) (a .w .now) (a .q) (a .x) (a .y) (a .j + 0) _ e (l .inv .2))
 
 pub lower-one-spec : {M : Type 1} → statement M
 lower-one-spec =

@@ -41,10 +41,10 @@ loop-holds c =
     let a = s .args in (
       omega arith,
       omega arith,
-      upper-none binary64 _ (a .m) (a .w .now) (a .g) (a .y) (a .j + 0) _ (omega arith),
-      upper-none binary64 _ (a .m) (a .w .now) (a .g) (a .y) (a .j + 1) _ (omega arith),
-      upper-none binary64 _ (a .m) (a .w .now) (a .g) (a .y) (a .j + 2) _ (omega arith),
-      upper-none binary64 _ (a .m) (a .w .now) (a .g) (a .y) (a .j + 3) _ (omega arith),
+      upper-none binary64 _ (a .m) (a .w .now) (a .w .now) (a .g) (a .y) (a .j + 0) _ (omega arith),
+      upper-none binary64 _ (a .m) (a .w .now) (a .w .now) (a .g) (a .y) (a .j + 1) _ (omega arith),
+      upper-none binary64 _ (a .m) (a .w .now) (a .w .now) (a .g) (a .y) (a .j + 2) _ (omega arith),
+      upper-none binary64 _ (a .m) (a .w .now) (a .w .now) (a .g) (a .y) (a .j + 3) _ (omega arith),
     )
 
 loop-again : tie.Need-loop-again Inv-loop μ-loop
@@ -55,10 +55,10 @@ loop-again c =
     let h = row-down (l .r) (a .m) (turn .loop-test .taken) in (
       omega arith,
       omega arith,
-      upper-turn binary64 _ (a .k) (a .m) (a .w .now) (a .g) (a .y) (a .j + 0) _ _ (turn .loop-test .taken) (l .inv .0) (l .inv .2) (omega arith),
-      upper-turn binary64 _ (a .k) (a .m) (a .w .now) (a .g) (a .y) (a .j + 1) _ _ (turn .loop-test .taken) (l .inv .0) (l .inv .3) (omega arith),
-      upper-turn binary64 _ (a .k) (a .m) (a .w .now) (a .g) (a .y) (a .j + 2) _ _ (turn .loop-test .taken) (l .inv .0) (l .inv .4) (omega arith),
-      upper-turn binary64 _ (a .k) (a .m) (a .w .now) (a .g) (a .y) (a .j + 3) _ _ (turn .loop-test .taken) (l .inv .0) (l .inv .5) (omega arith),
+      upper-turn binary64 _ (a .k) (a .m) (a .w .now) (a .w .now) (a .g) (a .y) (a .j + 0) _ _ (turn .loop-test .taken) (l .inv .0) (l .inv .2) (omega arith),
+      upper-turn binary64 _ (a .k) (a .m) (a .w .now) (a .w .now) (a .g) (a .y) (a .j + 1) _ _ (turn .loop-test .taken) (l .inv .0) (l .inv .3) (omega arith),
+      upper-turn binary64 _ (a .k) (a .m) (a .w .now) (a .w .now) (a .g) (a .y) (a .j + 2) _ _ (turn .loop-test .taken) (l .inv .0) (l .inv .4) (omega arith),
+      upper-turn binary64 _ (a .k) (a .m) (a .w .now) (a .w .now) (a .g) (a .y) (a .j + 3) _ _ (turn .loop-test .taken) (l .inv .0) (l .inv .5) (omega arith),
     )
 
 returns : tie.Need-returns Inv-loop μ-loop
@@ -68,10 +68,10 @@ returns c =
     let l = head .loop in
     let a = s .args in
     let e : l .r ≡ 0 = omega arith in
-    let d0 = upper-done binary64 _ _ (a .m) (a .w .now) (a .g) (a .y) (a .j + 0) _ e (l .inv .2) in
-    let d1 = upper-done binary64 _ _ (a .m) (a .w .now) (a .g) (a .y) (a .j + 1) _ e (l .inv .3) in
-    let d2 = upper-done binary64 _ _ (a .m) (a .w .now) (a .g) (a .y) (a .j + 2) _ e (l .inv .4) in
-    let d3 = upper-done binary64 _ _ (a .m) (a .w .now) (a .g) (a .y) (a .j + 3) _ e (l .inv .5) in
+    let d0 = upper-done binary64 _ _ (a .m) (a .w .now) (a .w .now) (a .g) (a .y) (a .j + 0) _ e (l .inv .2) in
+    let d1 = upper-done binary64 _ _ (a .m) (a .w .now) (a .w .now) (a .g) (a .y) (a .j + 1) _ e (l .inv .3) in
+    let d2 = upper-done binary64 _ _ (a .m) (a .w .now) (a .w .now) (a .g) (a .y) (a .j + 2) _ e (l .inv .4) in
+    let d3 = upper-done binary64 _ _ (a .m) (a .w .now) (a .w .now) (a .g) (a .y) (a .j + 3) _ e (l .inv .5) in
     put-next 3 _ _ _ _ _ (put-next 2 _ _ _ _ _ (put-next 1 _ _ _ _ _ (put-first _ _ _ _ d0) d1) d2) d3
 
 pub upper-four-spec : {M : Type 1} → statement M

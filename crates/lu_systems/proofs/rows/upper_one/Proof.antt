@@ -38,7 +38,7 @@ loop-holds c =
     let a = s .args in (
       omega arith,
       omega arith,
-      upper-none binary64 _ (a .m) (a .w .now) (a .g) (a .y) (a .j + 0) _ (omega arith),
+      upper-none binary64 _ (a .m) (a .w .now) (a .w .now) (a .g) (a .y) (a .j + 0) _ (omega arith),
     )
 
 loop-again : tie.Need-loop-again Inv-loop μ-loop
@@ -49,7 +49,7 @@ loop-again c =
     let h = row-down (l .r) (a .m) (turn .loop-test .taken) in (
       omega arith,
       omega arith,
-      upper-turn binary64 _ (a .k) (a .m) (a .w .now) (a .g) (a .y) (a .j + 0) _ _ (turn .loop-test .taken) (l .inv .0) (l .inv .2) (omega arith),
+      upper-turn binary64 _ (a .k) (a .m) (a .w .now) (a .w .now) (a .g) (a .y) (a .j + 0) _ _ (turn .loop-test .taken) (l .inv .0) (l .inv .2) (omega arith),
     )
 
 returns : tie.Need-returns Inv-loop μ-loop
@@ -59,7 +59,7 @@ returns c =
     let l = head .loop in
     let a = s .args in
     let e : l .r ≡ 0 = omega arith in
-    put-first _ _ _ _ (upper-done binary64 _ _ (a .m) (a .w .now) (a .g) (a .y) (a .j + 0) _ e (l .inv .2))
+    put-first _ _ _ _ (upper-done binary64 _ _ (a .m) (a .w .now) (a .w .now) (a .g) (a .y) (a .j + 0) _ e (l .inv .2))
 
 pub upper-one-spec : {M : Type 1} → statement M
 upper-one-spec =

@@ -3,7 +3,7 @@
 use mathlib.Core.Path.{sym, _∙_}
 use lib.Ieee.{binary64}
 use native.Mathlib.Omega.{arith}
-use Rattle.lu_factoring.proofs.ColumnLaws.{in-rows, divided-all, divided-none}
+use Rattle.lu_factoring.proofs.SystemLaws.{in-rows, divided-all, divided-none}
 use borrow.Author.Needs.{needs}
 use Rattle.lu_systems.proofs.workspace.divide.Statement.{statement}
 use Rattle.lu_systems.proofs.workspace.divide.Tie as tie

@@ -1,0 +1,27 @@
+-- `answer_of` meets its contract: each arm of the match is told the outcome. Assumes nothing.
+use borrow.Author.Needs.{needs}
+use Rattle.lu.proofs.question.answer_of.Statement.{statement}
+use Rattle.lu.proofs.question.answer_of.Tie as tie
+
+returns : tie.Need-returns
+returns c =
+    let done : tie.After-done = search in
+    let told : tie.After-enum-told = search in
+    rw (told .enum-told .given .1) (done .done .ensures)
+
+returns-2 : tie.Need-returns-2
+returns-2 c =
+    let refused : tie.After-refused = search in
+    let outcome : tie.After-outcome = search in
+    rw (outcome .outcome .given .1) (refused .refused .ensures)
+
+pub answer-of-spec : {M : Type 1} → statement M
+answer-of-spec =
+    tie.close
+    (tie.spec
+    (λ c. search needs)
+    (λ c κs. search needs)
+    (λ c. search needs)
+    (λ c κs. search needs)
+    returns
+    returns-2)
