@@ -1,14 +1,18 @@
-//! Times the port and the source side by side, on the same sheets in one run. README.md of host/ says what is timed.
+//! Times the port and the source side by side, in one run: `bench` on the same sheets, `bench calls` on the same calls in f32, beside the port's f64
+//! calls. README.md of host/ says what is timed.
 
+mod direct;
 mod inputs;
 mod source;
+mod timing;
 
 use compare::entry::{ABSENT, Entry, ROOM, port};
 use compare::sheet::Sheet;
 use inputs::{TIMED, overhead};
 use std::hint::black_box;
 use std::process::exit;
-use std::time::{Duration, Instant};
+use std::time::Duration;
+use timing::least_times;
 
 /// Nanoseconds for a sheet: through the entry, by the source with reading and writing, and the source's calls alone.
 #[derive(Clone, Copy)]
@@ -16,33 +20,6 @@ struct Times {
     port: f64,
     source: f64,
     calls: f64,
-}
-
-/// How often something is run in one sample, so that a sample takes at least this long.
-fn repeats(least: Duration, run: &mut dyn FnMut()) -> u32 {
-    let mut count = 1;
-    loop {
-        let start = Instant::now();
-        (0..count).for_each(|_| run());
-        if start.elapsed() >= least {
-            return count;
-        }
-        count *= 2;
-    }
-}
-
-/// Nanoseconds of one run: the least of the samples. The samples of the three take turns, so that a busy machine meets all of them.
-fn least_times(samples: usize, least: Duration, runs: &mut [&mut dyn FnMut(); 3]) -> [f64; 3] {
-    let counts = runs.each_mut().map(|run| repeats(least, run));
-    let mut times = [f64::INFINITY; 3];
-    for _ in 0..samples {
-        for k in 0..3 {
-            let start = Instant::now();
-            (0..counts[k]).for_each(|_| runs[k]());
-            times[k] = times[k].min(start.elapsed().as_nanos() as f64 / f64::from(counts[k]));
-        }
-    }
-    times
 }
 
 /// The output is lent once and not cleared between the runs.
@@ -83,12 +60,25 @@ fn report(entry: Entry, samples: usize, least: Duration) {
     }
 }
 
-fn main() {
+fn sheets(samples: usize, least: Duration) {
     let Some(entry) = port() else {
         eprintln!("bench: {ABSENT}");
         exit(2)
     };
-    report(entry, 15, Duration::from_millis(2));
+    report(entry, samples, least);
+}
+
+fn main() {
+    let words: Vec<String> = std::env::args().skip(1).collect();
+    let (samples, least) = (15, Duration::from_millis(2));
+    match words.iter().map(String::as_str).collect::<Vec<&str>>()[..] {
+        [] => sheets(samples, least),
+        ["calls"] => direct::calls(samples, least),
+        _ => {
+            eprintln!("bench [calls]");
+            exit(2)
+        }
+    }
 }
 
 #[cfg(test)]

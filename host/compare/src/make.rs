@@ -2,8 +2,9 @@
 
 use crate::entry::ROOM;
 use crate::sheet::{Sheet, Task};
-use vectors::call::{FUNCTIONS, Function};
-use vectors::cases::{Kind, NOT_FINITE, direction, exponent, matrix_for, square};
+use vectors::call::Function;
+use vectors::cases::{direction, exponent};
+use vectors::matrices::{matrix, spoil};
 use vectors::random::Random;
 
 /// The bytes to hand over, and the length of the lent output.
@@ -19,71 +20,6 @@ const EXPONENTS: [f64; 13] =
 /// The codes of tasks, and those of the square root and its derivative.
 const ALL: [usize; 10] = [0, 1, 2, 3, 4, 5, 6, 7, 8, 9];
 const ROOTS: [usize; 2] = [2, 8];
-
-/// An infinity or a NaN, with any sign and payload.
-fn not_finite(r: &mut Random) -> f64 {
-    if r.once_in(2) { r.pick(&NOT_FINITE) } else { f64::from_bits(r.bits() | 0x7ff0 << 48) }
-}
-
-/// Replaces an entry, once in n.
-fn spoil(numbers: &mut [f64], n: usize, r: &mut Random) {
-    if r.once_in(n) {
-        let at = r.below(numbers.len());
-        numbers[at] = not_finite(r);
-    }
-}
-
-/// Entries 1 / (i + j + 1), times a power of two: badly conditioned from order 4 on.
-fn reciprocals(n: usize, r: &mut Random) -> Vec<f64> {
-    let scale = r.power_of_two(-8, 8);
-    (0..n * n).map(|k| scale / (k / n + k % n + 1) as f64).collect()
-}
-
-/// Rows of very different sizes.
-fn uneven(n: usize, r: &mut Random) -> Vec<f64> {
-    let mut a = square(Kind::Normal, n, r);
-    for row in a.chunks_mut(n) {
-        let scale = r.power_of_two(-40, 40);
-        row.iter_mut().for_each(|x| *x *= scale);
-    }
-    a
-}
-
-/// Eigenvalues that are real, and some or all below 0: the diagonal of a triangle, or a definite matrix negated.
-fn negative(n: usize, r: &mut Random) -> Vec<f64> {
-    if r.once_in(2) {
-        return square(Kind::Definite, n, r).iter().map(|x| -x).collect();
-    }
-    let mut a = square(Kind::PositiveUpper, n, r);
-    for i in 0..n {
-        a[i * n + i] *= r.pick(&[-1.0, -1.0, 1.0]);
-    }
-    a
-}
-
-/// The identity with one entry near the largest number above the diagonal: its logarithm is that entry, which a fractional power may take past the largest.
-fn steep(n: usize, r: &mut Random) -> Vec<f64> {
-    let mut a: Vec<f64> = (0..n * n).map(|k| if k / n == k % n { 1.0 } else { 0.0 }).collect();
-    if n > 1 {
-        a[n - 1] = r.sign() * (1.0 + r.unit()) * 2f64.powi(1022);
-    }
-    a
-}
-
-fn matrix(n: usize, r: &mut Random) -> Vec<f64> {
-    let mut a = match r.below(24) {
-        0..=1 => reciprocals(n, r),
-        2..=3 => uneven(n, r),
-        4..=5 => negative(n, r),
-        6..=7 => square(r.pick(&[Kind::Zeros, Kind::SmallIntegers, Kind::Singular]), n, r),
-        8..=9 => square(r.pick(&[Kind::Huge, Kind::Tiny, Kind::Overflowing]), n, r),
-        10 => steep(n, r),
-        // The kinds that suit a function, and now and then any kind.
-        _ => matrix_for(FUNCTIONS[r.below(10)].0, n, r),
-    };
-    spoil(&mut a, 24, r);
-    a
-}
 
 fn task(codes: &[usize], directions: usize, exponents: usize, r: &mut Random) -> Task {
     loop {

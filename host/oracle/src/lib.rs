@@ -1,6 +1,8 @@
-//! The source's functions on slices of numbers, row by row. The source is compiled as it is; see build.rs.
+//! The source's functions on slices of numbers, f64 or f32, row by row. The source is compiled as it is; see build.rs.
 //! A matrix is given by its rows, its columns and its numbers.
 
+use bytemuck::Zeroable;
+use oxiblas_core::scalar::{Field, Real};
 use oxiblas_matrix::MatRef;
 use utils::kronecker;
 use utils::matfun::functions;
@@ -17,94 +19,99 @@ pub mod workspace {
     }
 }
 
-type Two = (Vec<f64>, Vec<f64>);
+/// The numbers that the source's functions take: f64 and f32.
+pub trait Number: Field + Real + Zeroable {}
 
-pub fn expm(rows: usize, columns: usize, a: &[f64]) -> Result<Vec<f64>, MatFunError> {
-    Ok(functions::expm(MatRef::new(rows, columns, a))?.numbers().to_vec())
+impl<T: Field + Real + Zeroable> Number for T {}
+
+type Two<T> = (Vec<T>, Vec<T>);
+
+pub fn expm<T: Number>(rows: usize, columns: usize, a: &[T]) -> Result<Vec<T>, MatFunError> {
+    Ok(functions::expm(MatRef::new(rows, columns, a))?.into_numbers())
 }
 
-pub fn logm(rows: usize, columns: usize, a: &[f64]) -> Result<Vec<f64>, MatFunError> {
-    Ok(functions::logm(MatRef::new(rows, columns, a))?.numbers().to_vec())
+pub fn logm<T: Number>(rows: usize, columns: usize, a: &[T]) -> Result<Vec<T>, MatFunError> {
+    Ok(functions::logm(MatRef::new(rows, columns, a))?.into_numbers())
 }
 
-pub fn sqrtm(rows: usize, columns: usize, a: &[f64]) -> Result<Vec<f64>, MatFunError> {
-    Ok(functions::sqrtm(MatRef::new(rows, columns, a))?.numbers().to_vec())
+pub fn sqrtm<T: Number>(rows: usize, columns: usize, a: &[T]) -> Result<Vec<T>, MatFunError> {
+    Ok(functions::sqrtm(MatRef::new(rows, columns, a))?.into_numbers())
 }
 
-pub fn powm(rows: usize, columns: usize, a: &[f64], p: f64) -> Result<Vec<f64>, MatFunError> {
-    Ok(functions::powm(MatRef::new(rows, columns, a), p)?.numbers().to_vec())
+pub fn powm<T: Number>(rows: usize, columns: usize, a: &[T], p: T) -> Result<Vec<T>, MatFunError> {
+    Ok(functions::powm(MatRef::new(rows, columns, a), p)?.into_numbers())
 }
 
-pub fn cosm(rows: usize, columns: usize, a: &[f64]) -> Result<Vec<f64>, MatFunError> {
-    Ok(functions::cosm(MatRef::new(rows, columns, a))?.numbers().to_vec())
+pub fn cosm<T: Number>(rows: usize, columns: usize, a: &[T]) -> Result<Vec<T>, MatFunError> {
+    Ok(functions::cosm(MatRef::new(rows, columns, a))?.into_numbers())
 }
 
-pub fn sinm(rows: usize, columns: usize, a: &[f64]) -> Result<Vec<f64>, MatFunError> {
-    Ok(functions::sinm(MatRef::new(rows, columns, a))?.numbers().to_vec())
+pub fn sinm<T: Number>(rows: usize, columns: usize, a: &[T]) -> Result<Vec<T>, MatFunError> {
+    Ok(functions::sinm(MatRef::new(rows, columns, a))?.into_numbers())
 }
 
 /// The exponential and its derivative.
-pub fn frechet_expm(
+pub fn frechet_expm<T: Number>(
     rows: usize,
     columns: usize,
-    a: &[f64],
+    a: &[T],
     e_rows: usize,
     e_columns: usize,
-    e: &[f64],
-) -> Result<Two, MatFunError> {
+    e: &[T],
+) -> Result<Two<T>, MatFunError> {
     let (x, y) = functions::frechet_expm(MatRef::new(rows, columns, a), MatRef::new(e_rows, e_columns, e))?;
-    Ok((x.numbers().to_vec(), y.numbers().to_vec()))
+    Ok((x.into_numbers(), y.into_numbers()))
 }
 
 /// The logarithm and its derivative.
-pub fn frechet_logm(
+pub fn frechet_logm<T: Number>(
     rows: usize,
     columns: usize,
-    a: &[f64],
+    a: &[T],
     e_rows: usize,
     e_columns: usize,
-    e: &[f64],
-) -> Result<Two, MatFunError> {
+    e: &[T],
+) -> Result<Two<T>, MatFunError> {
     let (x, y) = functions::frechet_logm(MatRef::new(rows, columns, a), MatRef::new(e_rows, e_columns, e))?;
-    Ok((x.numbers().to_vec(), y.numbers().to_vec()))
+    Ok((x.into_numbers(), y.into_numbers()))
 }
 
 /// The square root and its derivative.
-pub fn frechet_sqrtm(
+pub fn frechet_sqrtm<T: Number>(
     rows: usize,
     columns: usize,
-    a: &[f64],
+    a: &[T],
     e_rows: usize,
     e_columns: usize,
-    e: &[f64],
-) -> Result<Two, MatFunError> {
+    e: &[T],
+) -> Result<Two<T>, MatFunError> {
     let (x, y) = functions::frechet_sqrtm(MatRef::new(rows, columns, a), MatRef::new(e_rows, e_columns, e))?;
-    Ok((x.numbers().to_vec(), y.numbers().to_vec()))
+    Ok((x.into_numbers(), y.into_numbers()))
 }
 
-pub fn cond_expm(rows: usize, columns: usize, a: &[f64]) -> Result<f64, MatFunError> {
+pub fn cond_expm<T: Number>(rows: usize, columns: usize, a: &[T]) -> Result<T, MatFunError> {
     functions::cond_expm(MatRef::new(rows, columns, a))
 }
 
-pub fn kron(rows: usize, columns: usize, a: &[f64], b_rows: usize, b_columns: usize, b: &[f64]) -> Vec<f64> {
-    kronecker::kron(MatRef::new(rows, columns, a), MatRef::new(b_rows, b_columns, b)).numbers().to_vec()
+pub fn kron<T: Number>(rows: usize, columns: usize, a: &[T], b_rows: usize, b_columns: usize, b: &[T]) -> Vec<T> {
+    kronecker::kron(MatRef::new(rows, columns, a), MatRef::new(b_rows, b_columns, b)).into_numbers()
 }
 
 /// Ends the program where a matrix is not square, as the source does.
-pub fn kron_sum(rows: usize, columns: usize, a: &[f64], b_rows: usize, b_columns: usize, b: &[f64]) -> Vec<f64> {
-    kronecker::kron_sum(MatRef::new(rows, columns, a), MatRef::new(b_rows, b_columns, b)).numbers().to_vec()
+pub fn kron_sum<T: Number>(rows: usize, columns: usize, a: &[T], b_rows: usize, b_columns: usize, b: &[T]) -> Vec<T> {
+    kronecker::kron_sum(MatRef::new(rows, columns, a), MatRef::new(b_rows, b_columns, b)).into_numbers()
 }
 
 /// A factorization by the source's `Lu::compute`. The source keeps its fields to itself, so factors come from a matrix only.
-pub struct Lu(lu::Lu<f64>);
+pub struct Lu<T: Number>(lu::Lu<T>);
 
-impl Lu {
-    pub fn compute(rows: usize, columns: usize, a: &[f64]) -> Result<Lu, LuError> {
+impl<T: Number> Lu<T> {
+    pub fn compute(rows: usize, columns: usize, a: &[T]) -> Result<Lu<T>, LuError> {
         Ok(Lu(lu::Lu::compute(MatRef::new(rows, columns, a))?))
     }
 
     /// The multipliers below the diagonal, and the upper factor on and above it.
-    pub fn factors(&self) -> Vec<f64> {
+    pub fn factors(&self) -> Vec<T> {
         self.0.lu_matrix().numbers().to_vec()
     }
 
@@ -113,11 +120,11 @@ impl Lu {
         self.0.pivot()
     }
 
-    pub fn solve(&self, rows: usize, columns: usize, b: &[f64]) -> Result<Vec<f64>, LuError> {
-        Ok(self.0.solve(MatRef::new(rows, columns, b))?.numbers().to_vec())
+    pub fn solve(&self, rows: usize, columns: usize, b: &[T]) -> Result<Vec<T>, LuError> {
+        Ok(self.0.solve(MatRef::new(rows, columns, b))?.into_numbers())
     }
 
-    pub fn determinant(&self) -> f64 {
+    pub fn determinant(&self) -> T {
         self.0.determinant()
     }
 }

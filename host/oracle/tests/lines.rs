@@ -31,7 +31,7 @@ fn lu_refuses_at_the_tolerance() {
 
 #[test]
 fn lu_of_order_0() {
-    let lu = Lu::compute(0, 0, &[]).unwrap();
+    let lu = Lu::<f64>::compute(0, 0, &[]).unwrap();
     assert_eq!(lu.determinant(), 1.0);
     assert_eq!(lu.solve(0, 3, &[]).unwrap(), []);
 }
@@ -81,7 +81,7 @@ fn order_1() {
 
 #[test]
 fn shapes_are_refused() {
-    assert_eq!(oracle::expm(0, 3, &[]), Err(MatFunError::EmptyMatrix));
+    assert_eq!(oracle::expm::<f64>(0, 3, &[]), Err(MatFunError::EmptyMatrix));
     assert_eq!(oracle::expm(2, 3, &[0.0; 6]), Err(MatFunError::NotSquare { nrows: 2, ncols: 3 }));
     let refused = oracle::frechet_expm(2, 2, &[0.0; 4], 2, 3, &[0.0; 6]);
     assert_eq!(refused, Err(MatFunError::NotSquare { nrows: 2, ncols: 3 }));
@@ -137,4 +137,44 @@ fn powers_of_two_are_exact() {
         assert_eq!(2.0f64.powf(-(s as f64)).to_bits(), power.to_bits(), "2^-{s}");
         power *= 0.5;
     }
+}
+
+/// The same in f32, where 2^-128 is subnormal.
+#[test]
+fn powers_of_two_are_exact_in_f32() {
+    let mut power = 1.0f32;
+    for s in 0..=128 {
+        assert_eq!(2.0f32.powf(-(s as f32)).to_bits(), power.to_bits(), "2^-{s}");
+        power *= 0.5;
+    }
+    assert_eq!(2.0f32.powf(100.0), (2f64.powi(100)) as f32);
+}
+
+/// In f32 the machine step is 2^-23.
+#[test]
+fn lu_refuses_at_the_tolerance_of_f32() {
+    let two_to_minus_22 = 2f32.powi(-22);
+    let refused = Lu::compute(2, 2, &[two_to_minus_22, 0.0, 0.0, 1.0]);
+    assert!(matches!(refused, Err(LuError::Singular { index: 0 })));
+    assert!(Lu::compute(2, 2, &[two_to_minus_22.next_up(), 0.0, 0.0, 1.0]).is_ok());
+}
+
+/// The exponent is widened for the integer test: in f32 the number after 3 is no integer, and the nearest to 1e-14 counts as 0.
+#[test]
+fn powm_widens_the_exponent() {
+    let shear = [1.0f32, 1.0, 0.0, 1.0];
+    assert_eq!(oracle::powm(2, 2, &shear, 3.0).unwrap(), [1.0, 3.0, 0.0, 1.0]);
+    // The negated identity has whole powers and no logarithm.
+    let turned = [-1.0f32, 0.0, 0.0, -1.0];
+    assert_eq!(oracle::powm(2, 2, &turned, 1e-14).unwrap(), [1.0, 0.0, 0.0, 1.0]);
+    assert_eq!(oracle::powm(2, 2, &turned, 1e-14f32.next_up()), Err(MatFunError::NotConverged));
+    assert_eq!(oracle::powm(2, 2, &turned, 3f32.next_up()), Err(MatFunError::NotConverged));
+}
+
+/// The step of frechet_logm is the f32 root of 2^-23. The logarithms of the identity and of the identity with that step above the diagonal are exact, so
+/// the derivative is 1 there.
+#[test]
+fn frechet_logm_in_f32() {
+    let (log, derivative) = oracle::frechet_logm(2, 2, &[1.0f32, 0.0, 0.0, 1.0], 2, 2, &[0.0, 1.0, 0.0, 0.0]).unwrap();
+    assert_eq!((log, derivative), (vec![0.0; 4], vec![0.0, 1.0, 0.0, 0.0]));
 }

@@ -3,25 +3,26 @@
 use crate::call::{Call, Done, Function::*, Outcome, Refusal};
 use crate::norms::{block, even_direction, frobenius_norm, halvings, near_power_of_two, one_norm, source_halvings};
 use crate::questions::asked;
+use crate::width::Width;
 use oracle::{Lu, LuError, MatFunError};
 
 /// What the source gives: its outputs, one or two.
-type Given = Result<[Vec<f64>; 2], MatFunError>;
+type Given<T> = Result<[Vec<T>; 2], MatFunError>;
 
-fn one(given: Result<Vec<f64>, MatFunError>) -> Given {
+fn one<T>(given: Result<Vec<T>, MatFunError>) -> Given<T> {
     given.map(|x| [x, Vec::new()])
 }
 
-fn two(given: Result<(Vec<f64>, Vec<f64>), MatFunError>) -> Given {
+fn two<T>(given: Result<(Vec<T>, Vec<T>), MatFunError>) -> Given<T> {
     given.map(|(x, y)| [x, y])
 }
 
-fn done(halvings: usize, outputs: [Vec<f64>; 2]) -> Outcome {
+fn done<T>(halvings: usize, outputs: [Vec<T>; 2]) -> Outcome<T> {
     Outcome::Done(Done { halvings, near: false, outputs, pivots: Vec::new() })
 }
 
 /// A function without halvings. After questions 1 to 11 the source's only refusal is NotConverged.
-fn plain(given: Given) -> Outcome {
+fn plain<T>(given: Given<T>) -> Outcome<T> {
     match given {
         Ok(outputs) => done(0, outputs),
         Err(MatFunError::NotConverged) => Outcome::Refused(Refusal(13, 0, 0)),
@@ -31,7 +32,7 @@ fn plain(given: Given) -> Outcome {
 
 /// A function whose halvings are set by this norm, or by the norm + 1 for cosine and sine. Question 12 is document 01's own: the source
 /// would not end.
-fn halved(norm: f64, run: impl Fn() -> Given) -> Outcome {
+fn halved<T: Width>(norm: T, run: impl Fn() -> Given<T>) -> Outcome<T> {
     if !norm.is_finite() {
         return Outcome::Refused(Refusal(12, 0, 0));
     }
@@ -45,16 +46,16 @@ fn halved(norm: f64, run: impl Fn() -> Given) -> Outcome {
     }
 }
 
-fn power(n: usize, a: &[f64], p: f64) -> Outcome {
+fn power<T: Width>(n: usize, a: &[T], p: T) -> Outcome<T> {
     let run = || one(oracle::powm(n, n, a, p));
-    if (p - p.round()).abs() < 1e-14 {
+    if (p.wide() - p.wide().round()).abs() < 1e-14 {
         return plain(run());
     }
     // A fractional power's exponential halves its argument, which is the exponent times the logarithm. The answer reports 0.
     match oracle::logm(n, n, a) {
         Err(_) => plain(run()),
         Ok(log) => {
-            let scaled: Vec<f64> = log.iter().map(|x| p * x).collect();
+            let scaled: Vec<T> = log.iter().map(|x| p * *x).collect();
             match halved(one_norm(n, &scaled), run) {
                 Outcome::Done(d) => Outcome::Done(Done { halvings: 0, ..d }),
                 refused => refused,
@@ -64,7 +65,7 @@ fn power(n: usize, a: &[f64], p: f64) -> Outcome {
 }
 
 /// The ratio, and both norms. The source gives the ratio only; the norms are those of its frechet_expm's outputs.
-fn condition(n: usize, a: &[f64]) -> Given {
+fn condition<T: Width>(n: usize, a: &[T]) -> Given<T> {
     let e = even_direction(n);
     let (exponential, derivative) = oracle::frechet_expm(n, n, a, n, n, &e)?;
     let ratio = oracle::cond_expm(n, n, a)?;
@@ -72,15 +73,15 @@ fn condition(n: usize, a: &[f64]) -> Given {
 }
 
 /// The source's factors of the matrix behind a call of solve or determinant, which must be those that the call is given.
-fn factors(c: &Call) -> Lu {
-    let bits = |x: &[f64]| x.iter().map(|x| crate::call::word(*x)).collect::<Vec<u64>>();
+fn factors<T: Width>(c: &Call<T>) -> Lu<T> {
+    let bits = |x: &[T]| x.iter().map(|x| crate::call::word(*x)).collect::<Vec<u64>>();
     let lu = Lu::compute(c.rows, c.rows, &c.factored).unwrap_or_else(|e| panic!("{e}"));
     assert_eq!(bits(&lu.factors()), bits(&c.matrix));
     assert_eq!(lu.pivots(), c.pivots);
     lu
 }
 
-pub fn answer(c: &Call) -> Outcome {
+pub fn answer<T: Width>(c: &Call<T>) -> Outcome<T> {
     if let Err(refusal) = asked(c) {
         return Outcome::Refused(refusal);
     }
@@ -90,8 +91,8 @@ pub fn answer(c: &Call) -> Outcome {
         Logm => plain(one(oracle::logm(n, n, a))),
         Sqrtm => plain(one(oracle::sqrtm(n, n, a))),
         Powm => power(n, a, c.exponent),
-        Cosm => halved(one_norm(n, a) + 1.0, || one(oracle::cosm(n, n, a))),
-        Sinm => halved(one_norm(n, a) + 1.0, || one(oracle::sinm(n, n, a))),
+        Cosm => halved(one_norm(n, a) + T::one(), || one(oracle::cosm(n, n, a))),
+        Sinm => halved(one_norm(n, a) + T::one(), || one(oracle::sinm(n, n, a))),
         FrechetExpm => halved(one_norm(2 * n, &block(n, a, e)), || two(oracle::frechet_expm(n, n, a, n, n, e))),
         FrechetLogm => plain(two(oracle::frechet_logm(n, n, a, n, n, e))),
         FrechetSqrtm => plain(two(oracle::frechet_sqrtm(n, n, a, n, n, e))),

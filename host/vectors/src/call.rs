@@ -1,5 +1,6 @@
 //! A call, its outcome, and both as one line of text.
 
+use crate::width::Width;
 use std::fmt::Write;
 
 #[derive(Clone, Copy, Debug, PartialEq, Eq)]
@@ -88,25 +89,25 @@ impl Function {
 
 /// What a call is given. What a function does not have is 0 or empty.
 #[derive(Clone, Debug)]
-pub struct Call {
+pub struct Call<T = f64> {
     pub function: Function,
     pub rows: usize,
     pub columns: usize,
-    pub matrix: Vec<f64>,
+    pub matrix: Vec<T>,
     pub companion_rows: usize,
     pub companion_columns: usize,
-    pub companion: Vec<f64>,
-    pub exponent: f64,
+    pub companion: Vec<T>,
+    pub exponent: T,
     pub pivots: Vec<usize>,
     /// The lengths of the lent outputs and of the workspace.
     pub outputs: [usize; 2],
     pub room: usize,
     /// The matrix whose factors and pivots solve and determinant are given. It is not written to the line.
-    pub factored: Vec<f64>,
+    pub factored: Vec<T>,
 }
 
-impl Call {
-    pub fn new(function: Function) -> Call {
+impl<T: Width> Call<T> {
+    pub fn new(function: Function) -> Call<T> {
         Call {
             function,
             rows: 0,
@@ -115,7 +116,7 @@ impl Call {
             companion_rows: 0,
             companion_columns: 0,
             companion: Vec::new(),
-            exponent: 0.0,
+            exponent: T::zero(),
             pivots: Vec::new(),
             outputs: [0, 0],
             room: 0,
@@ -124,7 +125,7 @@ impl Call {
     }
 
     /// A call of a function that has a code, of order n, with outputs and a workspace that fit. The direction is taken where the function has one.
-    pub fn coded(function: Function, n: usize, matrix: &[f64], direction: &[f64], exponent: f64) -> Call {
+    pub fn coded(function: Function, n: usize, matrix: &[T], direction: &[T], exponent: T) -> Call<T> {
         let mut c = Call::new(function);
         (c.rows, c.columns, c.room) = (n, n, 8192);
         (c.matrix, c.exponent) = (matrix.to_vec(), exponent);
@@ -153,31 +154,39 @@ impl Call {
 pub struct Refusal(pub usize, pub usize, pub usize);
 
 #[derive(Clone, Debug)]
-pub struct Done {
+pub struct Done<T = f64> {
     pub halvings: usize,
-    /// The norm that sets the halvings lies within relative distance 2^-40 of a power of two. Both counts agree there.
+    /// The norm that sets the halvings lies within relative distance 2^-40 (2^-12 in f32) of a power of two. Both counts agree there.
     pub near: bool,
-    pub outputs: [Vec<f64>; 2],
+    pub outputs: [Vec<T>; 2],
     pub pivots: Vec<usize>,
 }
 
 #[derive(Clone, Debug)]
-pub enum Outcome {
-    Done(Done),
+pub enum Outcome<T = f64> {
+    Done(Done<T>),
     Refused(Refusal),
     /// The source takes another number of halvings than document 01 defines: a listed difference, not compared.
     Parted,
 }
 
 /// The bits of a number; every NaN is written as one.
-pub fn word(x: f64) -> u64 {
-    if x.is_nan() { 0x7ff8_0000_0000_0000 } else { x.to_bits() }
+pub fn word<T: Width>(x: T) -> u64 {
+    // By the bits: the compiler may take a number that is tested by `is_nan` for its own bits.
+    let bits = x.bits();
+    if bits & !(1 << (T::BITS - 1)) > T::infinity_bits() { T::nan_bits() } else { bits }
 }
 
-fn put_numbers(line: &mut String, numbers: &[f64]) {
+/// A space and the bits of a number, as 16 digits or as 8.
+fn put_number<T: Width>(line: &mut String, x: T) {
+    let digits = T::BITS as usize / 4;
+    write!(line, " {:0digits$x}", word(x)).unwrap();
+}
+
+fn put_numbers<T: Width>(line: &mut String, numbers: &[T]) {
     write!(line, " {:x}", numbers.len()).unwrap();
     for x in numbers {
-        write!(line, " {:016x}", word(*x)).unwrap();
+        put_number(line, *x);
     }
 }
 
@@ -193,11 +202,11 @@ fn put_pivots(line: &mut String, pivots: &[usize]) {
 }
 
 /// One line without its newline, as host/README.md describes it; none for a call that is left out.
-pub fn line(call: &Call, outcome: &Outcome) -> Option<String> {
+pub fn line<T: Width>(call: &Call<T>, outcome: &Outcome<T>) -> Option<String> {
     let mut line = call.function.name().to_string();
     put_counts(&mut line, &[call.rows, call.columns, call.companion_rows, call.companion_columns]);
     put_counts(&mut line, &[call.outputs[0], call.outputs[1], call.room]);
-    write!(line, " {:016x}", word(call.exponent)).unwrap();
+    put_number(&mut line, call.exponent);
     put_numbers(&mut line, &call.matrix);
     put_numbers(&mut line, &call.companion);
     put_pivots(&mut line, &call.pivots);

@@ -3,6 +3,7 @@
 use crate::call::{Call, Function, Function::*};
 use crate::questions::asked;
 use crate::random::Random;
+use crate::width::Width;
 use oracle::Lu;
 
 #[derive(Clone, Copy)]
@@ -68,33 +69,57 @@ const ENTRIES: [Kind; 9] = [SmallIntegers, Normal, Scaled, PowersOfTwo, Zeros, T
 
 pub const NOT_FINITE: [f64; 3] = [f64::NAN, f64::INFINITY, f64::NEG_INFINITY];
 
+/// A NaN or an infinity.
+fn not_finite<T: Width>(r: &mut Random) -> T {
+    T::of(r.pick(&NOT_FINITE))
+}
+
+/// Either sign.
+fn signed<T: Width>(x: T, r: &mut Random) -> T {
+    x * T::of(r.sign())
+}
+
+/// A power of two with an exponent in this range.
+fn power_within((low, high): (i32, i32), r: &mut Random) -> f64 {
+    r.power_of_two(low, high)
+}
+
+/// From the largest power of two up to the largest number.
+fn overflowing<T: Width>(r: &mut Random) -> T {
+    let x = T::of(1.0 + r.unit()) * T::power(T::LARGEST);
+    if x.is_finite() { x } else { T::largest() }
+}
+
 /// Numbers of one kind, whatever the shape.
-fn entries(kind: Kind, count: usize, r: &mut Random) -> Vec<f64> {
+fn entries<T: Width>(kind: Kind, count: usize, r: &mut Random) -> Vec<T> {
     let scale = match kind {
         Scaled => r.power_of_two(-30, 30),
-        Huge => r.power_of_two(900, 1020),
-        Tiny => r.power_of_two(-500, -450) * r.power_of_two(-560, -500),
+        Huge => power_within(T::EDGES.huge, r),
+        Tiny => power_within(T::EDGES.tiny[0], r) * power_within(T::EDGES.tiny[1], r),
         Ties => f64::from(r.between(1, 9)),
         _ => 1.0,
     };
     let mut numbers = Vec::with_capacity(count);
     for _ in 0..count {
         numbers.push(match kind {
-            SmallIntegers => f64::from(r.between(-9, 9)),
-            PowersOfTwo => r.sign() * r.power_of_two(-20, 20),
-            Ties => r.sign() * scale,
-            Zeros if r.once_in(2) => r.sign() * 0.0,
+            SmallIntegers => T::of(f64::from(r.between(-9, 9))),
+            PowersOfTwo => T::of(r.sign() * r.power_of_two(-20, 20)),
+            Ties => T::of(r.sign() * scale),
+            Zeros if r.once_in(2) => T::of(r.sign() * 0.0),
             AnyFinite => r.finite(),
-            Overflowing if r.once_in(2) => r.sign() * (1.0 + r.unit()) * 2f64.powi(1023),
-            Nonfinite if r.once_in(4) => r.pick(&NOT_FINITE),
-            _ => r.normal() * scale,
+            Overflowing if r.once_in(2) => {
+                let sign = T::of(r.sign());
+                sign * overflowing(r)
+            }
+            Nonfinite if r.once_in(4) => not_finite(r),
+            _ => T::of(r.normal() * scale),
         });
     }
     numbers
 }
 
 /// Rows in another order.
-fn shuffle(n: usize, a: &mut [f64], r: &mut Random) {
+fn shuffle<T>(n: usize, a: &mut [T], r: &mut Random) {
     for i in 1..n {
         let other = r.below(i + 1);
         for j in 0..n {
@@ -104,23 +129,25 @@ fn shuffle(n: usize, a: &mut [f64], r: &mut Random) {
 }
 
 /// A pivot at, next to or near the largest that is refused, in some column: an upper triangle with rows in another order.
-fn at_tolerance(n: usize, r: &mut Random) -> Vec<f64> {
+fn at_tolerance<T: Width>(n: usize, r: &mut Random) -> Vec<T> {
     let mut a = square(Upper, n, r);
     for i in 0..n {
-        a[i * n + i] = r.sign() * f64::from(r.between(1, 4));
+        a[i * n + i] = T::of(r.sign() * f64::from(r.between(1, 4)));
     }
-    let t = f64::EPSILON * n as f64;
+    let t = T::power(-(T::FRACTION as i32)) * T::of(n as f64);
     let k = r.below(n);
-    a[k * n + k] = r.sign() * r.pick(&[t, t.next_up(), t.next_down(), 2.0 * t, 0.5 * t]);
+    let sign = T::of(r.sign());
+    a[k * n + k] = sign * r.pick(&[t, t.next_up(), t.next_down(), T::of(2.0) * t, T::of(0.5) * t]);
     shuffle(n, &mut a, r);
     a
 }
 
-pub fn square(kind: Kind, n: usize, r: &mut Random) -> Vec<f64> {
+pub fn square<T: Width>(kind: Kind, n: usize, r: &mut Random) -> Vec<T> {
     if n == 0 {
         return Vec::new();
     }
-    let mut a = entries(kind, n * n, r);
+    let (zero, one) = (T::zero(), T::one());
+    let mut a: Vec<T> = entries(kind, n * n, r);
     match kind {
         Symmetric => {
             for i in 0..n {
@@ -132,17 +159,17 @@ pub fn square(kind: Kind, n: usize, r: &mut Random) -> Vec<f64> {
         Upper | PositiveUpper => {
             for i in 0..n {
                 for j in 0..i {
-                    a[i * n + j] = 0.0;
+                    a[i * n + j] = zero;
                 }
                 if let PositiveUpper = kind {
-                    a[i * n + i] = 0.1 + 4.0 * r.unit();
+                    a[i * n + i] = T::of(0.1 + 4.0 * r.unit());
                 }
             }
         }
         Lower => {
             for i in 0..n {
                 for j in i + 1..n {
-                    a[i * n + j] = 0.0;
+                    a[i * n + j] = zero;
                 }
             }
         }
@@ -151,27 +178,27 @@ pub fn square(kind: Kind, n: usize, r: &mut Random) -> Vec<f64> {
             let (from, to) = (r.below(n), r.below(n));
             let factor = if from == to { 0.0 } else { r.pick(&[1.0, -1.0, 2.0, 0.5, 3.0]) };
             for j in 0..n {
-                a[to * n + j] = factor * a[from * n + j];
+                a[to * n + j] = T::of(factor) * a[from * n + j];
             }
         }
         AtTolerance => a = at_tolerance(n, r),
         NearIdentity => {
-            let size = r.pick(&[0.3, 0.03, 0.001, 1e-9]);
+            let size = T::of(r.pick(&[0.3, 0.03, 0.001, T::EDGES.small]));
             for i in 0..n {
                 for j in 0..n {
-                    a[i * n + j] = size * a[i * n + j] + if i == j { 1.0 } else { 0.0 };
+                    a[i * n + j] = size * a[i * n + j] + if i == j { one } else { zero };
                 }
             }
         }
         Definite => {
             // Half the sum of the matrix times its transpose and a multiple of the identity, times a power of two.
-            let scale = r.power_of_two(-6, 6);
+            let scale = T::of(r.power_of_two(-6, 6));
             let b = a.clone();
             for i in 0..n {
                 for j in 0..n {
-                    let mut sum = if i == j { 0.5 } else { 0.0 };
+                    let mut sum = if i == j { T::of(0.5) } else { zero };
                     for k in 0..n {
-                        sum += b[i * n + k] * b[j * n + k];
+                        sum = sum + b[i * n + k] * b[j * n + k];
                     }
                     a[i * n + j] = sum * scale;
                 }
@@ -179,11 +206,11 @@ pub fn square(kind: Kind, n: usize, r: &mut Random) -> Vec<f64> {
         }
         Shear => {
             // The identity and one entry above the diagonal, up to the largest: its logarithm is that entry, and may overflow times p.
-            let power = if r.once_in(4) { r.power_of_two(1000, 1023) } else { r.power_of_two(-20, 60) };
-            let entry = r.sign() * power * r.pick(&[1.0, 1.0, 1.5, 1.25]);
-            a = vec![0.0; n * n];
+            let power = if r.once_in(4) { power_within(T::EDGES.steep, r) } else { r.power_of_two(-20, 60) };
+            let entry = T::of(r.sign() * power * r.pick(&[1.0, 1.0, 1.5, 1.25]));
+            a = vec![zero; n * n];
             for i in 0..n {
-                a[i * n + i] = 1.0;
+                a[i * n + i] = one;
             }
             if n > 1 {
                 let i = r.below(n - 1);
@@ -193,12 +220,12 @@ pub fn square(kind: Kind, n: usize, r: &mut Random) -> Vec<f64> {
         }
         Rotation => {
             // Pairs of rows turn by an angle; a last row alone is 1.
-            a = vec![0.0; n * n];
-            let angle = 20.0 * r.unit() - 10.0;
+            a = vec![zero; n * n];
+            let angle = T::of(20.0 * r.unit() - 10.0);
             for i in 0..n {
                 let pair = i ^ 1;
                 if pair >= n {
-                    a[i * n + i] = 1.0;
+                    a[i * n + i] = one;
                 } else {
                     a[i * n + pair] = if i < pair { -angle } else { angle };
                 }
@@ -206,23 +233,25 @@ pub fn square(kind: Kind, n: usize, r: &mut Random) -> Vec<f64> {
         }
         AtPower => {
             // A diagonal whose 1-norm is a power of two or next to it, or that less 1, as cosine and sine add 1.
-            let power = if r.once_in(4) { r.power_of_two(0, 1023) } else { r.power_of_two(0, 40) };
-            let largest = r.pick(&[power, power.next_up(), power.next_down(), power - 1.0, power * (1.0 + 1e-11)]);
+            let power = T::of(if r.once_in(4) { r.power_of_two(0, T::LARGEST) } else { r.power_of_two(0, 40) });
+            let mut choices = vec![power, power.next_up(), power.next_down(), power - one];
+            choices.extend(T::EDGES.beyond.iter().map(|factor| power * T::of(*factor)));
+            let largest = r.pick(&choices);
             let at = r.below(n);
             for i in 0..n {
                 for j in 0..n {
-                    let inside = if i == at { largest } else { largest * r.unit() };
-                    a[i * n + j] = if i == j { r.sign() * inside } else { 0.0 };
+                    let inside = if i == at { largest } else { largest * T::of(r.unit()) };
+                    a[i * n + j] = if i == j { signed(inside, r) } else { zero };
                 }
             }
         }
         Special => {
             // A multiple of the identity, rows in another order or not, or of the matrix of ones above the diagonal.
-            let x = r.pick(&[0.0, -0.0, 1.0, -1.0, 4.0, 0.25, 1e-300, 3.0]);
+            let x = T::of(r.pick(&[0.0, -0.0, 1.0, -1.0, 4.0, 0.25, T::EDGES.least, 3.0]));
             let above = r.once_in(3);
             for i in 0..n {
                 for j in 0..n {
-                    a[i * n + j] = if (above && i < j) || (!above && i == j) { x } else { 0.0 };
+                    a[i * n + j] = if (above && i < j) || (!above && i == j) { x } else { zero };
                 }
             }
             if r.once_in(3) {
@@ -235,7 +264,7 @@ pub fn square(kind: Kind, n: usize, r: &mut Random) -> Vec<f64> {
 }
 
 /// A matrix for a function.
-pub fn matrix_for(function: Function, n: usize, r: &mut Random) -> Vec<f64> {
+pub fn matrix_for<T: Width>(function: Function, n: usize, r: &mut Random) -> Vec<T> {
     let kind = match function {
         Logm | Sqrtm | Powm | FrechetLogm | FrechetSqrtm if r.once_in(2) => r.pick(&ROOTED),
         Expm | Cosm | Sinm | FrechetExpm | CondExpm if r.once_in(2) => r.pick(&[Normal, Scaled, Symmetric]),
@@ -245,38 +274,40 @@ pub fn matrix_for(function: Function, n: usize, r: &mut Random) -> Vec<f64> {
     square(kind, n, r)
 }
 
-pub fn direction(n: usize, r: &mut Random) -> Vec<f64> {
+pub fn direction<T: Width>(n: usize, r: &mut Random) -> Vec<T> {
     let kind = if r.once_in(2) { Normal } else { r.pick(&FINITE) };
     square(kind, n, r)
 }
 
-fn free_entries(count: usize, r: &mut Random) -> Vec<f64> {
+fn free_entries<T: Width>(count: usize, r: &mut Random) -> Vec<T> {
     let kind = if r.once_in(6) { Nonfinite } else { r.pick(&ENTRIES) };
     entries(kind, count, r)
 }
 
-pub fn exponent(r: &mut Random) -> f64 {
+pub fn exponent<T: Width>(r: &mut Random) -> T {
+    let whole = 2f64.powi(T::FRACTION as i32);
+    let power = T::of(2f64.powi(63));
     match r.below(8) {
-        0 => f64::from(r.between(-6, 12)),
-        1 => f64::from(r.between(-400, 400)),
-        2 => r.sign() * r.power_of_two(0, 70),
-        3 => r.pick(&[0.5, -0.5, 2.5, -2.5, 1.0 / 3.0, 0.25, 0.1, 1.5]),
-        4 => r.normal(),
+        0 => T::of(f64::from(r.between(-6, 12))),
+        1 => T::of(f64::from(r.between(-400, 400))),
+        2 => T::of(r.sign() * r.power_of_two(0, 70)),
+        3 => T::of(r.pick(&[0.5, -0.5, 2.5, -2.5, 1.0 / 3.0, 0.25, 0.1, 1.5])),
+        4 => T::of(r.normal()),
         // At the edges of the integer test, of rounding and of the cast.
-        5 => r.pick(&[0.0, -0.0, 1e-15, 1e-14, 9.9e-15, -1e-15, -1e-14, 3.0 + 1e-14, 3.0 - 9e-15, 1e19, -1e19]),
+        5 => T::of(r.pick(T::EDGES.exponents)),
         6 => r.pick(&[
-            0.5f64.next_down(),
-            -0.5,
-            1.5f64.next_up(),
-            2f64.powi(52) - 0.5,
-            2f64.powi(52) + 1.0,
-            2f64.powi(53) + 2.0,
-            2f64.powi(63),
-            -(2f64.powi(63)),
-            2f64.powi(63).next_down(),
-            f64::MAX,
+            T::of(0.5).next_down(),
+            T::of(-0.5),
+            T::of(1.5).next_up(),
+            T::of(whole - 0.5),
+            T::of(whole + 1.0),
+            T::of(2.0 * whole + 2.0),
+            power,
+            -power,
+            power.next_down(),
+            T::largest(),
         ]),
-        _ => r.normal() * r.power_of_two(-8, 8),
+        _ => T::of(r.normal() * r.power_of_two(-8, 8)),
     }
 }
 
@@ -296,7 +327,7 @@ fn factor_sizes(r: &mut Random) -> (usize, usize) {
 }
 
 /// Lends outputs and a workspace that fit.
-fn lend(c: &mut Call, r: &mut Random) {
+fn lend<T: Width>(c: &mut Call<T>, r: &mut Random) {
     for i in 0..c.function.output_count() {
         c.outputs[i] = c.output_length();
     }
@@ -306,7 +337,7 @@ fn lend(c: &mut Call, r: &mut Random) {
 }
 
 /// A call of this order with nothing wrong with its shape.
-fn sound(function: Function, n: usize, r: &mut Random) -> Call {
+fn sound<T: Width>(function: Function, n: usize, r: &mut Random) -> Call<T> {
     let mut c = Call::new(function);
     (c.rows, c.columns) = (n, n);
     match function {
@@ -357,7 +388,7 @@ fn sound(function: Function, n: usize, r: &mut Random) -> Call {
 }
 
 /// Lengths that belong to the call's shape.
-fn fit(c: &mut Call, r: &mut Random) {
+fn fit<T: Width>(c: &mut Call<T>, r: &mut Random) {
     c.matrix = free_entries(c.rows * c.columns, r);
     if c.function.has_companion() {
         c.companion = free_entries(c.companion_rows * c.companion_columns, r);
@@ -374,7 +405,7 @@ fn miss(count: usize, r: &mut Random) -> usize {
 }
 
 /// Above the limit of question 4.
-fn exceed(c: &mut Call, r: &mut Random) {
+fn exceed<T>(c: &mut Call<T>, r: &mut Random) {
     if c.function.kronecker() {
         match r.below(4) {
             0 => c.rows = 65,
@@ -398,7 +429,7 @@ fn exceed(c: &mut Call, r: &mut Random) {
 }
 
 /// Something wrong, where the function has what is spoiled.
-fn spoil(c: &mut Call, r: &mut Random) {
+fn spoil<T: Width>(c: &mut Call<T>, r: &mut Random) {
     match r.below(11) {
         0 => {
             c.rows = 0;
@@ -423,11 +454,11 @@ fn spoil(c: &mut Call, r: &mut Random) {
         }
         4 => {
             let wrong = miss(c.matrix.len(), r);
-            c.matrix.resize(wrong, 1.0);
+            c.matrix.resize(wrong, T::one());
         }
         5 if c.function.has_companion() => {
             let wrong = miss(c.companion.len(), r);
-            c.companion.resize(wrong, 1.0);
+            c.companion.resize(wrong, T::one());
         }
         6 if c.function.lu() => {
             let wrong = miss(c.pivots.len(), r);
@@ -438,7 +469,7 @@ fn spoil(c: &mut Call, r: &mut Random) {
             c.outputs[i] = miss(c.outputs[i], r);
         }
         8 if c.function.has_workspace() => c.room = r.pick(&[0, 1, 4096, 8191]),
-        9 if c.function == Powm => c.exponent = r.pick(&NOT_FINITE),
+        9 if c.function == Powm => c.exponent = not_finite(r),
         9 if !c.pivots.is_empty() => {
             let k = r.below(c.pivots.len());
             c.pivots[k] = if k > 0 && r.once_in(2) { r.below(k) } else { c.rows + r.below(3) };
@@ -447,7 +478,7 @@ fn spoil(c: &mut Call, r: &mut Random) {
             let numbers = if c.companion.is_empty() || r.once_in(2) { &mut c.matrix } else { &mut c.companion };
             if !numbers.is_empty() {
                 let at = r.below(numbers.len());
-                numbers[at] = r.pick(&NOT_FINITE);
+                numbers[at] = not_finite(r);
             }
         }
         _ => {}
@@ -455,16 +486,17 @@ fn spoil(c: &mut Call, r: &mut Random) {
 }
 
 /// A call of order 1, at the edges of question 10.
-fn of_order_1(function: Function, r: &mut Random) -> Call {
+fn of_order_1<T: Width>(function: Function, r: &mut Random) -> Call<T> {
     let mut c = sound(function, 1, r);
     if r.once_in(2) {
-        c.matrix = vec![r.pick(&[0.0, -0.0, 1.0, -1.0, 4.0, f64::from_bits(1), -f64::from_bits(1), f64::MAX, 2.0])];
+        let (least, [one, two, four]) = (T::of_bits(1), [1.0, 2.0, 4.0].map(T::of));
+        c.matrix = vec![r.pick(&[T::zero(), -T::zero(), one, -one, four, least, -least, T::largest(), two])];
     }
     c
 }
 
 /// A call to try.
-pub fn case(function: Function, r: &mut Random) -> Call {
+pub fn case<T: Width>(function: Function, r: &mut Random) -> Call<T> {
     if function.coded() && r.once_in(24) {
         return of_order_1(function, r);
     }

@@ -1,13 +1,15 @@
-//! Calls of document 01's functions with their answers. The source computes the numbers; document 01's rules give the refusals that the
+//! Calls of document 01's functions with their answers, at both widths of numbers. The source computes the numbers; document 01's rules give the refusals that the
 //! source does not have.
 
 pub mod answer;
 pub mod call;
 pub mod cases;
 pub mod given;
+pub mod matrices;
 pub mod norms;
 pub mod planted;
 pub mod questions;
 pub mod random;
 pub mod read;
 pub mod roots;
+pub mod width;

@@ -1,5 +1,6 @@
 //! `vectors NAME SEED COUNT` prints COUNT calls of one function with their answers, `vectors given NAME` those that are written out, and
-//! `vectors roots` square roots. `vectors planted NAME` and `vectors planted roots` print one line that is wrong in one bit.
+//! `vectors roots` square roots. `vectors planted NAME` and `vectors planted roots` print one line that is wrong in one bit. With f32 before the other
+//! words the numbers are f32.
 
 use std::env::args;
 use std::io::{BufWriter, Result, Write, stdout};
@@ -11,22 +12,28 @@ use vectors::given::given;
 use vectors::planted::{planted, planted_root};
 use vectors::random::Random;
 use vectors::roots::roots;
+use vectors::width::Width;
 
-fn print_roots() -> Result<()> {
+fn print_root<T: Width>(out: &mut impl Write, (x, root): (u64, u64)) -> Result<()> {
+    let digits = T::BITS as usize / 4;
+    writeln!(out, "{x:0digits$x} {root:0digits$x}")
+}
+
+fn print_roots<T: Width>() -> Result<()> {
     let mut out = BufWriter::new(stdout());
-    for (x, root) in roots() {
-        writeln!(out, "{x:016x} {root:016x}")?;
+    for pair in roots::<T>() {
+        print_root::<T>(&mut out, pair)?;
     }
     out.flush()
 }
 
-fn print_calls(function: Function, seed: u64, count: usize) -> Result<()> {
+fn print_calls<T: Width>(function: Function, seed: u64, count: usize) -> Result<()> {
     let mut out = BufWriter::new(stdout());
     // Each function has a sequence of its own.
     let mut random = Random::new(seed.wrapping_mul(16).wrapping_add(function as u64));
     let (mut printed, mut near, mut parted) = (0, 0, 0);
     while printed < count {
-        let call = case(function, &mut random);
+        let call = case::<T>(function, &mut random);
         let outcome = answer(&call);
         match &outcome {
             Outcome::Parted => parted += 1,
@@ -43,9 +50,9 @@ fn print_calls(function: Function, seed: u64, count: usize) -> Result<()> {
     Ok(())
 }
 
-fn print_given(function: Function) -> Result<()> {
+fn print_given<T: Width>(function: Function) -> Result<()> {
     let mut out = BufWriter::new(stdout());
-    for call in given(function) {
+    for call in given::<T>(function) {
         if let Some(text) = line(&call, &answer(&call)) {
             writeln!(out, "{text}")?;
         }
@@ -53,47 +60,50 @@ fn print_given(function: Function) -> Result<()> {
     out.flush()
 }
 
-fn print_planted(function: Function) -> Result<()> {
-    let (call, outcome) = planted(function);
+fn print_planted<T: Width>(function: Function) -> Result<()> {
+    let (call, outcome) = planted::<T>(function);
     match line(&call, &outcome) {
         Some(text) => writeln!(stdout(), "{text}"),
         None => Ok(()),
     }
 }
 
-fn print_planted_root() -> Result<()> {
-    let (x, root) = planted_root();
-    writeln!(stdout(), "{x:016x} {root:016x}")
-}
-
 fn usage() -> ! {
     let names: Vec<&str> = FUNCTIONS.iter().map(|(_, name)| *name).collect();
     let forms = ["NAME SEED COUNT", "given NAME", "planted NAME", "planted roots", "roots"];
     for form in forms {
-        eprintln!("vectors {form}");
+        eprintln!("vectors [f32] {form}");
     }
     eprintln!("NAME: {}", names.join(" "));
     exit(2)
 }
 
-fn main() -> Result<()> {
-    let given: Vec<String> = args().skip(1).collect();
-    let given: Vec<&str> = given.iter().map(String::as_str).collect();
-    match given[..] {
-        ["roots"] => print_roots(),
+/// What the words ask for, at one width.
+fn run<T: Width>(words: &[&str]) -> Result<()> {
+    match *words {
+        ["roots"] => print_roots::<T>(),
         ["given", name] => match Function::named(name) {
-            Some(function) if function.coded() => print_given(function),
+            Some(function) if function.coded() => print_given::<T>(function),
             _ => usage(),
         },
-        ["planted", "roots"] => print_planted_root(),
+        ["planted", "roots"] => print_root::<T>(&mut stdout(), planted_root::<T>()),
         ["planted", name] => match Function::named(name) {
-            Some(function) => print_planted(function),
+            Some(function) => print_planted::<T>(function),
             None => usage(),
         },
         [name, seed, count] => match (Function::named(name), seed.parse(), count.parse()) {
-            (Some(function), Ok(seed), Ok(count)) => print_calls(function, seed, count),
+            (Some(function), Ok(seed), Ok(count)) => print_calls::<T>(function, seed, count),
             _ => usage(),
         },
         _ => usage(),
+    }
+}
+
+fn main() -> Result<()> {
+    let words: Vec<String> = args().skip(1).collect();
+    let words: Vec<&str> = words.iter().map(String::as_str).collect();
+    match words.split_first() {
+        Some((&"f32", others)) => run::<f32>(others),
+        _ => run::<f64>(&words),
     }
 }

@@ -1,12 +1,14 @@
 //! The 1-norm, the block of frechet_expm, and the halvings.
 
+use crate::width::Width;
+
 /// The largest column sum of magnitudes, from +0; a NaN sum never wins.
-pub fn one_norm(n: usize, a: &[f64]) -> f64 {
-    let mut largest = 0.0;
+pub fn one_norm<T: Width>(n: usize, a: &[T]) -> T {
+    let mut largest = T::zero();
     for j in 0..n {
-        let mut sum = 0.0;
+        let mut sum = T::zero();
         for i in 0..n {
-            sum += a[i * n + j].abs();
+            sum = sum + a[i * n + j].magnitude();
         }
         if sum > largest {
             largest = sum;
@@ -16,8 +18,8 @@ pub fn one_norm(n: usize, a: &[f64]) -> f64 {
 }
 
 /// [A E; 0 A].
-pub fn block(n: usize, a: &[f64], e: &[f64]) -> Vec<f64> {
-    let mut b = vec![0.0; 4 * n * n];
+pub fn block<T: Width>(n: usize, a: &[T], e: &[T]) -> Vec<T> {
+    let mut b = vec![T::zero(); 4 * n * n];
     for i in 0..n {
         for j in 0..n {
             b[2 * n * i + j] = a[n * i + j];
@@ -28,26 +30,27 @@ pub fn block(n: usize, a: &[f64], e: &[f64]) -> Vec<f64> {
     b
 }
 
-/// I / √n, the direction of cond_expm.
-pub fn even_direction(n: usize) -> Vec<f64> {
-    let mut e = vec![0.0; n * n];
+/// I / √n, the direction of cond_expm. The root is rounded in f64 first.
+pub fn even_direction<T: Width>(n: usize) -> Vec<T> {
+    let mut e = vec![T::zero(); n * n];
     for i in 0..n {
-        e[i * n + i] = 1.0 / (n as f64).sqrt();
+        e[i * n + i] = T::one() / T::of((n as f64).sqrt());
     }
     e
 }
 
 /// The Frobenius norm: the root of the sum of squares, row by row from +0.
-pub fn frobenius_norm(a: &[f64]) -> f64 {
-    let mut sum = 0.0;
+pub fn frobenius_norm<T: Width>(a: &[T]) -> T {
+    let mut sum = T::zero();
     for x in a {
-        sum += x * x;
+        sum = sum + *x * *x;
     }
     sum.sqrt()
 }
 
 /// Document 01's halvings of a finite norm: the least s from 0 with norm ≤ 2^s.
-pub fn halvings(norm: f64) -> usize {
+pub fn halvings<T: Width>(norm: T) -> usize {
+    let norm = norm.wide();
     if norm <= 1.0 {
         return 0;
     }
@@ -57,16 +60,18 @@ pub fn halvings(norm: f64) -> usize {
 }
 
 /// The source's halvings: the ceiling of ln(norm) / ln 2, at least 0.
-pub fn source_halvings(norm: f64) -> usize {
-    (norm.ln() / 2f64.ln()).ceil().max(0.0) as usize
+pub fn source_halvings<T: Width>(norm: T) -> usize {
+    (norm.logarithm() / T::of(2.0).logarithm()).wide().ceil().max(0.0) as usize
 }
 
-/// Within relative distance 2^-40 of a power of two. Norms below 1/2 have no halvings by either count and are not asked about.
-pub fn near_power_of_two(norm: f64) -> bool {
-    if norm < 0.5 {
+/// Within relative distance 2^-40 of a power of two, 2^-12 in f32. Norms below 1/2 have no halvings by either count and are not asked about.
+pub fn near_power_of_two<T: Width>(norm: T) -> bool {
+    if norm < T::of(0.5) {
         return false;
     }
-    // The number is (1 + m × 2^-52) × 2^k. Its relative distance from 2^k is m × 2^-52, that from 2^(k+1) is (2^52 − m) × 2^-53.
-    let m = norm.to_bits() & ((1 << 52) - 1);
-    m <= 1 << 12 || (1 << 52) - m <= 1 << 13
+    // The number is (1 + m × 2^-f) × 2^k. Its relative distance from 2^k is m × 2^-f, that from 2^(k+1) is (2^f − m) × 2^-(f+1).
+    let one = 1 << T::FRACTION;
+    let m = norm.bits() & (one - 1);
+    let distance = one >> T::NEAR;
+    m <= distance || one - m <= 2 * distance
 }

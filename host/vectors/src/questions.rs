@@ -2,6 +2,7 @@
 //! and 11 are document 01's own.
 
 use crate::call::{Call, Function::*, Refusal};
+use crate::width::Width;
 
 fn at_most(x: usize, limit: usize) -> Result<(), Refusal> {
     if x <= limit { Ok(()) } else { Err(Refusal(4, x, limit)) }
@@ -11,7 +12,7 @@ fn exactly(found: usize, wanted: usize) -> Result<(), Refusal> {
     if found == wanted { Ok(()) } else { Err(Refusal(5, found, wanted)) }
 }
 
-fn all_finite(numbers: &[f64], columns: usize, number: usize) -> Result<(), Refusal> {
+fn all_finite<T: Width>(numbers: &[T], columns: usize, number: usize) -> Result<(), Refusal> {
     match numbers.iter().position(|x| !x.is_finite()) {
         Some(at) => Err(Refusal(number, at / columns, at % columns)),
         None => Ok(()),
@@ -19,10 +20,11 @@ fn all_finite(numbers: &[f64], columns: usize, number: usize) -> Result<(), Refu
 }
 
 /// Question 4.
-fn limits(c: &Call) -> Result<(), Refusal> {
+fn limits<T>(c: &Call<T>) -> Result<(), Refusal> {
     if c.function.kronecker() {
         let sizes = [c.rows, c.columns, c.companion_rows, c.companion_columns];
-        let products = [c.rows * c.companion_rows, c.columns * c.companion_columns];
+        // Sizes are asked before the products that they would take past the largest number.
+        let products = [c.rows.saturating_mul(c.companion_rows), c.columns.saturating_mul(c.companion_columns)];
         return sizes.iter().chain(&products).try_for_each(|x| at_most(*x, 64));
     }
     if c.function.coded() {
@@ -33,7 +35,7 @@ fn limits(c: &Call) -> Result<(), Refusal> {
 }
 
 /// Question 5.
-fn lengths(c: &Call) -> Result<(), Refusal> {
+fn lengths<T: Width>(c: &Call<T>) -> Result<(), Refusal> {
     exactly(c.matrix.len(), c.rows * c.columns)?;
     if c.function.has_companion() {
         exactly(c.companion.len(), c.companion_rows * c.companion_columns)?;
@@ -51,7 +53,7 @@ fn lengths(c: &Call) -> Result<(), Refusal> {
 }
 
 /// The first "no", if any.
-pub fn asked(c: &Call) -> Result<(), Refusal> {
+pub fn asked<T: Width>(c: &Call<T>) -> Result<(), Refusal> {
     let f = c.function;
     if f.coded() && c.rows == 0 {
         return Err(Refusal(1, 0, 0));
@@ -87,10 +89,10 @@ pub fn asked(c: &Call) -> Result<(), Refusal> {
         }
     }
     if c.rows == 1 {
-        let x = c.matrix.first().copied().unwrap_or(0.0);
+        let x = c.matrix.first().copied().unwrap_or_default();
         let defined = match f {
-            Logm | FrechetLogm => x > 0.0,
-            Sqrtm | FrechetSqrtm => x >= 0.0,
+            Logm | FrechetLogm => x > T::zero(),
+            Sqrtm | FrechetSqrtm => x >= T::zero(),
             _ => true,
         };
         if !defined {

@@ -1,5 +1,8 @@
 //! The generator splitmix64, and numbers drawn from it.
 
+use crate::width::Width;
+
+#[derive(Clone)]
 pub struct Random(u64);
 
 impl Random {
@@ -57,9 +60,9 @@ impl Random {
     }
 
     /// Any finite number, by its bits.
-    pub fn finite(&mut self) -> f64 {
+    pub fn finite<T: Width>(&mut self) -> T {
         loop {
-            let x = f64::from_bits(self.bits());
+            let x = T::of_bits(self.bits() >> (64 - T::BITS));
             if x.is_finite() {
                 return x;
             }

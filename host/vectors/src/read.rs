@@ -1,6 +1,7 @@
 //! Reads the lines that call.rs writes.
 
 use crate::call::{Call, Done, Function, Outcome, Refusal};
+use crate::width::Width;
 use std::str::Split;
 
 /// The fields of a line that are left. A line that is not of the form ends the program.
@@ -19,9 +20,9 @@ impl<'a> Fields<'a> {
         self.bits() as usize
     }
 
-    fn numbers(&mut self) -> Vec<f64> {
+    fn numbers<T: Width>(&mut self) -> Vec<T> {
         let count = self.count();
-        (0..count).map(|_| f64::from_bits(self.bits())).collect()
+        (0..count).map(|_| T::of_bits(self.bits())).collect()
     }
 
     fn counts(&mut self) -> Vec<usize> {
@@ -31,14 +32,14 @@ impl<'a> Fields<'a> {
 }
 
 /// The call and its outcome. The matrix behind given factors is not on a line.
-pub fn read(line: &str) -> (Call, Outcome) {
+pub fn read<T: Width>(line: &str) -> (Call<T>, Outcome<T>) {
     let mut f = Fields(line.split(' '));
     let mut c = Call::new(Function::named(f.next()).expect("a function's name"));
     (c.rows, c.columns) = (f.count(), f.count());
     (c.companion_rows, c.companion_columns) = (f.count(), f.count());
     c.outputs = [f.count(), f.count()];
     c.room = f.count();
-    c.exponent = f64::from_bits(f.bits());
+    c.exponent = T::of_bits(f.bits());
     c.matrix = f.numbers();
     c.companion = f.numbers();
     c.pivots = f.counts();

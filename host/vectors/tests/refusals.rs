@@ -6,9 +6,10 @@ use vectors::call::{Call, FUNCTIONS, Function::*, Refusal};
 use vectors::cases::case;
 use vectors::questions::asked;
 use vectors::random::Random;
+use vectors::width::Width;
 
 /// The source's refusal, or none. Where kron_sum's assertions fail, that is NotSquare of the matrix that is not square.
-fn source(c: &Call) -> Option<MatFunError> {
+fn source<T: Width + std::panic::RefUnwindSafe>(c: &Call<T>) -> Option<MatFunError> {
     let (r, k, a) = (c.rows, c.columns, &c.matrix[..]);
     let (s, l, e) = (c.companion_rows, c.companion_columns, &c.companion[..]);
     match c.function {
@@ -23,8 +24,8 @@ fn source(c: &Call) -> Option<MatFunError> {
         FrechetSqrtm => oracle::frechet_sqrtm(r, k, a, s, l, e).err(),
         CondExpm => oracle::cond_expm(r, k, a).err(),
         LuSolve if r == k => {
-            let mut identity = vec![0.0; r * r];
-            (0..r).for_each(|i| identity[i * r + i] = 1.0);
+            let mut identity = vec![T::zero(); r * r];
+            (0..r).for_each(|i| identity[i * r + i] = T::one());
             match Lu::compute(r, r, &identity).ok()?.solve(s, l, e) {
                 Err(LuError::DimensionMismatch { .. }) => Some(MatFunError::NotSquare { nrows: s, ncols: l }),
                 _ => None,
@@ -43,15 +44,12 @@ fn source(c: &Call) -> Option<MatFunError> {
     }
 }
 
-#[test]
-fn the_source_refuses_too() {
-    // kron_sum's assertions are expected.
-    std::panic::set_hook(Box::new(|_| {}));
+fn refuses_too<T: Width + std::panic::RefUnwindSafe>() {
     let mut seen = [0; 11];
     for (function, _) in FUNCTIONS {
         let mut r = Random::new(11);
         for _ in 0..1500 {
-            let c = case(function, &mut r);
+            let c = case::<T>(function, &mut r);
             if c.matrix.len() != c.rows * c.columns || c.companion.len() != c.companion_rows * c.companion_columns {
                 continue;
             }
@@ -67,4 +65,12 @@ fn the_source_refuses_too() {
         }
     }
     assert!([1, 2, 3, 10].iter().all(|k| seen[*k] > 20), "{seen:?}");
+}
+
+#[test]
+fn the_source_refuses_too() {
+    // kron_sum's assertions are expected.
+    std::panic::set_hook(Box::new(|_| {}));
+    refuses_too::<f64>();
+    refuses_too::<f32>();
 }

@@ -1,4 +1,4 @@
-//! Stand-in for the crate bytemuck: the one trait that the source names, for f64.
+//! Stand-in for the crate bytemuck: the one trait that the source names, for f64 and f32.
 
 pub trait Zeroable: Sized {
     fn zeroed() -> Self;
@@ -6,6 +6,12 @@ pub trait Zeroable: Sized {
 
 impl Zeroable for f64 {
     fn zeroed() -> f64 {
+        0.0
+    }
+}
+
+impl Zeroable for f32 {
+    fn zeroed() -> f32 {
         0.0
     }
 }

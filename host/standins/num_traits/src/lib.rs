@@ -1,5 +1,5 @@
-//! Stand-in for the crate num-traits: the traits and methods that the source names, for f64 only.
-//! Every operation is f64's own.
+//! Stand-in for the crate num-traits: the traits and methods that the source names, for f64 and f32.
+//! Every operation is the type's own. An f64 becomes an f32 by the cast, which rounds to the nearest.
 
 use std::ops::{Add, Div, Mul, Neg, Sub};
 
@@ -30,47 +30,55 @@ pub trait Float:
     fn powf(self, p: Self) -> Self;
 }
 
-impl Zero for f64 {
-    fn zero() -> f64 {
-        0.0
-    }
+/// All of them for one type of floats.
+macro_rules! floats {
+    ($t:ident) => {
+        impl Zero for $t {
+            fn zero() -> $t {
+                0.0
+            }
+        }
+
+        impl One for $t {
+            fn one() -> $t {
+                1.0
+            }
+        }
+
+        impl FromPrimitive for $t {
+            fn from_f64(x: f64) -> Option<$t> {
+                Some(x as $t)
+            }
+            fn from_usize(x: usize) -> Option<$t> {
+                Some(x as $t)
+            }
+        }
+
+        impl ToPrimitive for $t {
+            fn to_f64(&self) -> Option<f64> {
+                Some(*self as f64)
+            }
+        }
+
+        impl Float for $t {
+            fn epsilon() -> $t {
+                $t::EPSILON
+            }
+            fn abs(self) -> $t {
+                $t::abs(self)
+            }
+            fn ln(self) -> $t {
+                $t::ln(self)
+            }
+            fn ceil(self) -> $t {
+                $t::ceil(self)
+            }
+            fn powf(self, p: $t) -> $t {
+                $t::powf(self, p)
+            }
+        }
+    };
 }
 
-impl One for f64 {
-    fn one() -> f64 {
-        1.0
-    }
-}
-
-impl FromPrimitive for f64 {
-    fn from_f64(x: f64) -> Option<f64> {
-        Some(x)
-    }
-    fn from_usize(x: usize) -> Option<f64> {
-        Some(x as f64)
-    }
-}
-
-impl ToPrimitive for f64 {
-    fn to_f64(&self) -> Option<f64> {
-        Some(*self)
-    }
-}
-
-impl Float for f64 {
-    fn epsilon() -> f64 {
-        f64::EPSILON
-    }
-    fn abs(self) -> f64 {
-        f64::abs(self)
-    }
-    fn ln(self) -> f64 {
-        f64::ln(self)
-    }
-    fn ceil(self) -> f64 {
-        f64::ceil(self)
-    }
-    fn powf(self, p: f64) -> f64 {
-        f64::powf(self, p)
-    }
-}
+floats!(f64);
+floats!(f32);

@@ -1,5 +1,5 @@
-//! Stand-in for the crate oxiblas-core: the scalar traits that the source names, for f64 only.
-//! Every operation is f64's own.
+//! Stand-in for the crate oxiblas-core: the scalar traits that the source names, for f64 and f32.
+//! Every operation is the type's own.
 
 pub mod scalar {
     use num_traits::{Float, FromPrimitive, One, Zero};
@@ -33,33 +33,41 @@ pub mod scalar {
         fn cos(self) -> Self;
     }
 
-    impl Scalar for f64 {
-        type Real = f64;
-        fn abs(self) -> f64 {
-            f64::abs(self)
-        }
-        fn epsilon() -> f64 {
-            f64::EPSILON
-        }
+    /// All of them for one type of floats.
+    macro_rules! floats {
+        ($t:ident) => {
+            impl Scalar for $t {
+                type Real = $t;
+                fn abs(self) -> $t {
+                    $t::abs(self)
+                }
+                fn epsilon() -> $t {
+                    $t::EPSILON
+                }
+            }
+
+            impl Field for $t {}
+
+            impl Real for $t {
+                fn sqrt(self) -> $t {
+                    $t::sqrt(self)
+                }
+                fn exp(self) -> $t {
+                    $t::exp(self)
+                }
+                fn ln(self) -> $t {
+                    $t::ln(self)
+                }
+                fn sin(self) -> $t {
+                    $t::sin(self)
+                }
+                fn cos(self) -> $t {
+                    $t::cos(self)
+                }
+            }
+        };
     }
 
-    impl Field for f64 {}
-
-    impl Real for f64 {
-        fn sqrt(self) -> f64 {
-            f64::sqrt(self)
-        }
-        fn exp(self) -> f64 {
-            f64::exp(self)
-        }
-        fn ln(self) -> f64 {
-            f64::ln(self)
-        }
-        fn sin(self) -> f64 {
-            f64::sin(self)
-        }
-        fn cos(self) -> f64 {
-            f64::cos(self)
-        }
-    }
+    floats!(f64);
+    floats!(f32);
 }

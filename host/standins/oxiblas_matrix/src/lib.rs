@@ -66,8 +66,8 @@ impl<T> Mat<T> {
 
     /// The numbers, row by row.
     #[inline]
-    pub fn numbers(&self) -> &[T] {
-        &self.numbers
+    pub fn into_numbers(self) -> Vec<T> {
+        self.numbers
     }
 }
 

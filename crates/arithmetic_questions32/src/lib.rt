@@ -1,0 +1,3 @@
+// What every call shares: its answer, the questions it asks, and how its outputs are delivered.
+pub mod output;
+pub mod question;

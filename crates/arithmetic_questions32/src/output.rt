@@ -1,0 +1,54 @@
+// The end of a call: its outputs are written where it is done, and the workspace is cleared where `clears` says so.
+ghost use Prim.Native.Nat.{_≤_};
+ghost use lib.ListN.{length};
+ghost use Rattle.arithmetic_matrices.specs.Matrix.{part};
+ghost use Rattle.arithmetic_questions.specs.Kernels.{Delivered, DeliveredBoth};
+use arithmetic_matrices32::workspace::clear_where;
+use arithmetic_matrices32::workspace::copy_out;
+use arithmetic_questions::answer::Answer;
+use arithmetic_questions::answer::Outcome;
+use arithmetic_questions::answer::done;
+use arithmetic_questions::answer::refused;
+
+// What stands from slot 0 on is written to out.
+pub fn deliver(outcome: Outcome, out: &mut [f32], w: &mut [f32], clears: bool) -> Answer
+    requires { ⌜ (length (now out) ≤ 8192) × (8192 ≤ length (now w)) ⌝ }
+    ensures { λ r. ⌜ Delivered clears outcome (r .outcome) (part (now (w .entry)) 0 (length (now (out .entry)))) (now (out .entry)) (now (out .exit)) (now (w .entry)) (now (w .exit)) ⌝ }
+{
+    match outcome {
+        Outcome::Done { halvings } => {
+            copy_out(w, 0, out);
+            clear_where(w, clears);
+            done(halvings)
+        }
+        Outcome::Refused(why) => {
+            clear_where(w, clears);
+            refused(why)
+        }
+    }
+}
+
+// What stands in slot 0 is written to first, and what stands in slot 1 to second.
+pub fn deliver_both(
+    outcome: Outcome,
+    first: &mut [f32],
+    second: &mut [f32],
+    w: &mut [f32],
+    clears: bool,
+) -> Answer
+    requires { ⌜ (length (now first) ≤ 256) × (length (now second) ≤ 256) × (8192 ≤ length (now w)) ⌝ }
+    ensures { λ r. ⌜ DeliveredBoth clears outcome (r .outcome) (part (now (w .entry)) 0 (length (now (first .entry)))) (part (now (w .entry)) 256 (length (now (second .entry)))) (now (first .entry)) (now (first .exit)) (now (second .entry)) (now (second .exit)) (now (w .entry)) (now (w .exit)) ⌝ }
+{
+    match outcome {
+        Outcome::Done { halvings } => {
+            copy_out(w, 0, first);
+            copy_out(w, 1, second);
+            clear_where(w, clears);
+            done(halvings)
+        }
+        Outcome::Refused(why) => {
+            clear_where(w, clears);
+            refused(why)
+        }
+    }
+}

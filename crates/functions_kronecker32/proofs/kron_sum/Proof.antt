@@ -1,0 +1,55 @@
+-- `kron_sum` meets its contract. Assumes nothing.
+use borrow.Author.Needs.{needs}
+use native.Mathlib.Omega.{arith}
+use lib.ListN.{length}
+use denote.Ref.{now}
+use lib.Ieee.{binary32}
+use Rattle.arithmetic_questions.specs.Result.{done}
+use Rattle.arithmetic_questions.specs.Questions.{ofKronSum}
+use Rattle.functions_definitions.specs.Kronecker.{kronSumM}
+use Rattle.functions_definitions.specs.Calls.{kronSum}
+use Rattle.functions_kronecker.proofs.KroneckerQuestions.{call, kron-sum-fitting}
+use Rattle.arithmetic_questions.proofs.OutputLaws.{output-refused, output-done}
+use Rattle.functions_kronecker32.proofs.kron_sum.Statement.{statement}
+use Rattle.functions_kronecker32.proofs.kron_sum.Tie as tie
+
+kron-sum-into-requires : tie.Need-kron-sum-into-requires
+kron-sum-into-requires c κs =
+    let (told, ask-kron-sum, s) : tie.After-enum-told × tie.After-ask-kron-sum × tie.Start = search in
+    let a = s .args in
+    let asked = ask-kron-sum .ask-kron-sum in
+    let f = kron-sum-fitting (a .m) (a .n) (now (a .a)) (a .p) (a .q) (now (a .b)) (length (now (a .out))) (asked .result) (told .enum-told .given .1) (asked .ensures) in
+    omega arith
+
+returns : tie.Need-returns
+unfolding kronSum
+returns c =
+    let (refused, why, ask-kron-sum, s) : tie.After-refused × tie.After-why × tie.After-ask-kron-sum × tie.Start = search in
+    let a = s .args in
+    let asked = ask-kron-sum .ask-kron-sum in
+    output-refused ofKronSum (call (a .m) (a .n) (now (a .a)) (a .p) (a .q) (now (a .b)) (length (now (a .out)))) (asked .result) (asked .ensures) (refused .refused .result .outcome) (now (a .out))
+    (done 0 (kronSumM binary32 (a .m) (now (a .a)) (a .p) (now (a .b)))) _ (why .why .given .1) (refused .refused .ensures)
+
+returns-2 : tie.Need-returns-2
+unfolding kronSum
+returns-2 c =
+    let (at-done, kron-sum-into, told, ask-kron-sum, s) :
+    tie.After-done × tie.After-kron-sum-into × tie.After-enum-told × tie.After-ask-kron-sum × tie.Start = search in
+    let a = s .args in
+    let asked = ask-kron-sum .ask-kron-sum in
+    output-done ofKronSum (call (a .m) (a .n) (now (a .a)) (a .p) (a .q) (now (a .b)) (length (now (a .out)))) (asked .result) (asked .ensures) (at-done .done .result .outcome) (now (a .out))
+    0 (kronSumM binary32 (a .m) (now (a .a)) (a .p) (now (a .b))) _ (told .enum-told .given .1) (at-done .done .ensures) (kron-sum-into .kron-sum-into .ensures)
+
+pub kron-sum-spec : {M : Type 1} → statement M
+kron-sum-spec =
+    tie.close
+    (tie.spec
+    (λ c κs. search needs)
+    (λ c. search needs)
+    (λ c κs. search needs)
+    (λ c. search needs)
+    kron-sum-into-requires
+    (λ c κs. search needs)
+    returns
+    (λ c. search needs)
+    returns-2)

@@ -1,0 +1,91 @@
+-- `frechet_logm_with` meets its contract. Assumes nothing.
+use mathlib.Core.Path.{refl}
+use mathlib.Core.List.{[], _∷_}
+use lib.ListN.{length}
+use lib.Ieee.{binary32}
+use denote.Ref.{now}
+use Rattle.arithmetic_questions.specs.Questions.{Call, binary, withoutExponent, positive, ordersFromTwo, ofFrechetLogm}
+use Rattle.arithmetic_matrices.proofs.MatrixLaws.{square-le}
+use Rattle.arithmetic_questions.proofs.QuestionLaws.{Accepted, AcceptedDirection, accepted-directed}
+use Rattle.arithmetic_questions.proofs.BothLaws.{two-refused, two-done}
+use Rattle.functions_definitions.specs.Derivatives.{frechetLogM}
+use Rattle.functions_definitions.specs.Calls.{frechetLogm}
+use Rattle.functions_definitions.proofs.LateLaws.{late-frechet-logarithm}
+use native.Mathlib.Omega.{arith}
+use borrow.Author.Needs.{needs}
+use Rattle.functions_logarithms32.proofs.calls.frechet_logm_with.Statement.{statement}
+use Rattle.functions_logarithms32.proofs.calls.frechet_logm_with.Tie as tie
+
+abbrev call : tie.Start → Call
+call s =
+    let a = s .args in
+    binary (a .rows) (a .columns) (now (a .a)) (a .height) (a .width) (now (a .e)) (length (now (a .first)) ∷ length (now (a .second)) ∷ []) (length (now (a .w)))
+
+-- what the questions tell of the call
+passed : (told : tie.After-enum-told) → let s : tie.Start = search in Accepted (call s) × AcceptedDirection (call s)
+passed told =
+    let (ask, s) : tie.After-ask-frechet-logm × tie.Start = search in
+    accepted-directed withoutExponent positive ordersFromTwo (call s) (ask .ask-frechet-logm .result) (ask .ask-frechet-logm .ensures) (told .enum-told .given .1)
+
+copy-in-requires : tie.Need-copy-in-requires
+copy-in-requires c κs =
+    let (told, s) : tie.After-enum-told × tie.Start = search in
+    let h = passed told .0 .shape in
+    (omega arith, omega (arith, square-le (s .args .rows) (omega (arith, h .small)), h .long, h .room))
+
+copy-in-requires-2 : tie.Need-copy-in-requires-2
+copy-in-requires-2 c κs =
+    let (copied, told, s) : tie.After-copy-in × tie.After-enum-told × tie.Start = search in
+    let h = passed told in
+    (omega arith, omega (arith, square-le (s .args .rows) (omega (arith, h .0 .shape .small)), h .1 .shape .long, h .0 .shape .room, copied .copy-in .kept .0))
+
+frechet-logm-in-requires : tie.Need-frechet-logm-in-requires
+frechet-logm-in-requires c κs =
+    let (copied2, copied, told) : tie.After-copy-in2 × tie.After-copy-in × tie.After-enum-told = search in
+    let h = passed told .0 .shape in
+    record { order = omega (arith, h .small); space = omega (arith, h .room, copied .copy-in .kept .0, copied2 .copy-in2 .kept .0) }
+
+deliver-both-requires : tie.Need-deliver-both-requires
+deliver-both-requires c κs =
+    let (run, copied2, copied, told, s) :
+    tie.After-frechet-logm-in × tie.After-copy-in2 × tie.After-copy-in × tie.After-enum-told × tie.Start = search in
+    let h = passed told .0 .shape in
+    let few = square-le (s .args .rows) (omega (arith, h .small)) in
+    (omega (arith, few, h .outputs .0), omega (arith, few, h .outputs .1 .0), omega (arith, h .room, copied .copy-in .kept .0, copied2 .copy-in2 .kept .0, run .frechet-logm-in .kept .0))
+
+returns : tie.Need-returns
+unfolding frechetLogm
+returns c =
+    let (refused, why, ask, s) : tie.After-refused × tie.After-why × tie.After-ask-frechet-logm × tie.Start = search in
+    two-refused ofFrechetLogm (call s) _ (ask .ask-frechet-logm .ensures) (s .args .clears) _ _ _ _ (frechetLogM binary32 (s .args .rows) (now (s .args .a)) (now (s .args .e))) _ (why .why .given .1) (refused .refused .ensures)
+
+returns-2 : tie.Need-returns-2
+unfolding frechetLogm
+returns-2 c =
+    let (delivered, run, copied2, copied, told, ask, s) :
+    tie.After-deliver-both × tie.After-frechet-logm-in × tie.After-copy-in2 × tie.After-copy-in × tie.After-enum-told × tie.After-ask-frechet-logm
+    × tie.Start = search in
+    let a = s .args in
+    let h = passed told in
+    let m = h .0 .shape in
+    two-done ofFrechetLogm (call s) _ (ask .ask-frechet-logm .ensures) (a .clears) _ _ _ _ (0 ∷ 1 ∷ 2 ∷ 3 ∷ 5 ∷ 6 ∷ []) (a .rows) 4 (frechetLogM binary32 (a .rows)) (now (a .a)) (now (a .e)) _ _ _ _ _ _ _
+    (told .enum-told .given .1) (late-frechet-logarithm binary32 (a .rows) (now (a .a)) (now (a .e))) (omega (arith, m .small)) (m .room) (m .long) (h .1 .shape .long) (m .outputs .0) (m .outputs .1 .0) refl (omega arith) refl
+    (copied .copy-in .ensures) (copied2 .copy-in2 .ensures) (run .frechet-logm-in .ensures) (delivered .deliver-both .ensures)
+
+pub frechet-logm-with-spec : {M : Type 1} → statement M
+frechet-logm-with-spec =
+    tie.close
+    (tie.spec
+    (λ c κs. search needs)
+    (λ c. search needs)
+    (λ c κs. search needs)
+    (λ c. search needs)
+    copy-in-requires
+    copy-in-requires-2
+    frechet-logm-in-requires
+    deliver-both-requires
+    returns
+    (λ c. search needs)
+    (λ c. search needs)
+    (λ c. search needs)
+    returns-2)

@@ -1,0 +1,41 @@
+-- `logm_in` meets its contract: a law for each end of the roots. Assumes nothing.
+use mathlib.Core.Path.{ap}
+use lib.Ieee.{binary32}
+use Rattle.functions_logarithms.specs.Kernels.{countOf}
+use Rattle.functions_logarithms.proofs.LogarithmLaws.{logarithm-done, logarithm-refused}
+use native.Mathlib.Omega.{arith}
+use borrow.Author.Needs.{needs}
+use Rattle.functions_logarithms32.proofs.logarithm.logm_in.Statement.{statement}
+use Rattle.functions_logarithms32.proofs.logarithm.logm_in.Tie as tie
+
+near-logarithm-requires : tie.Need-near-logarithm-requires
+near-logarithm-requires c κs =
+    let (roots, take-roots, s) : tie.After-roots × tie.After-take-roots × tie.Start = search in
+    let t = take-roots .take-roots in
+    let k = ap countOf (roots .roots .given .1) in
+    (record { order = s .pre .order; space = omega (arith, t .kept .0, s .pre .space) }, omega (arith, k, t .ensures .few))
+
+returns : tie.Need-returns
+returns c =
+    let (near-logarithm, roots, take-roots, s) : tie.After-near-logarithm × tie.After-roots × tie.After-take-roots × tie.Start = search in
+    let t = take-roots .take-roots in
+    logarithm-done binary32 (s .args .n) (s .args .w .now) (s .pre) (t .last .0) (t .result) (t .ensures) (roots .roots .given .0 .0) (near-logarithm .near-logarithm .last .0) (roots .roots .given .1) (near-logarithm .near-logarithm .ensures)
+
+returns-2 : tie.Need-returns-2
+returns-2 c =
+    let (told, take-roots, s) : tie.After-enum-told × tie.After-take-roots × tie.Start = search in
+    let t = take-roots .take-roots in
+    logarithm-refused binary32 (s .args .n) (s .args .w .now) (s .pre) (t .last .0) (t .result) (t .ensures) (told .enum-told .given .1)
+
+pub logm-in-spec : {M : Type 1} → statement M
+logm-in-spec =
+    tie.close
+    (tie.spec
+    (λ c κs. search needs)
+    (λ c. search needs)
+    near-logarithm-requires
+    (λ c. search needs)
+    (λ c. search needs)
+    returns
+    (λ c. search needs)
+    returns-2)

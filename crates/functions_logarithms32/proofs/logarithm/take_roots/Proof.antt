@@ -1,0 +1,22 @@
+-- `take_roots` meets its contract, by the loop over the roots (`Rooting` of LogarithmLaws). The measure is what is left of 100. Assumes nothing.
+use Prim.Native.Nat.{_-_}
+use lib.Ieee.{binary32}
+use borrow.Author.Needs.{needs}
+use Rattle.arithmetic_matrices.proofs.Slots.{room-kept}
+use Rattle.functions_logarithms.proofs.LogarithmLaws.{Rooting, rooting-start, rooting-more, rooting-stops, rooting-fails, rooting-out}
+use Rattle.functions_logarithms32.proofs.logarithm.take_roots.Statement.{statement}
+use Rattle.functions_logarithms32.proofs.logarithm.take_roots.Tie as tie
+
+abbrev Inv-loop : tie.InvT-loop
+Inv-loop w₀ n k₀ w k = Rooting binary32 n w₀ w k
+
+abbrev μ-loop : tie.MeasureT-loop
+μ-loop w₀ n k₀ w k = 100 - k
+
+pub take-roots-spec : {M : Type 1} → statement M
+take-roots-spec =
+    tie.close
+    (tie.spec Inv-loop μ-loop (λ c. rooting-start) (λ c κs. search room-kept) (λ c. search needs) (λ c. search needs)
+    (λ c. search needs) (λ c. search rooting-stops) (λ c. search needs) (λ c. search needs)
+    (λ c. search rooting-fails) (λ c. search needs) (λ c. search needs) (λ c. search rooting-more) (λ c. search needs)
+    (λ c. search rooting-out))

@@ -1,0 +1,96 @@
+// The public calls of the logarithm. Each asks its questions first.
+ghost use lib.ListN.{length};
+ghost use lib.Ieee.{binary32};
+ghost use Rattle.arithmetic_questions.specs.Outputs.{OneOutputIn, OneOutputWith, TwoOutputsIn, TwoOutputsWith};
+ghost use Rattle.functions_definitions.specs.Calls.{frechetLogm, logm as logmOf};
+use crate::log_derivative::frechet_logm_in;
+use crate::logarithm::logm_in;
+use arithmetic_matrices32::workspace::copy_in;
+use arithmetic_questions::answer::Answer;
+use arithmetic_questions::answer::Question;
+use arithmetic_questions::answer::refused;
+use arithmetic_questions32::output::deliver;
+use arithmetic_questions32::output::deliver_both;
+use arithmetic_questions32::question::ask_frechet_logm;
+use arithmetic_questions32::question::ask_logm;
+
+// `logm`, where the workspace is cleared only if `clears` is true.
+pub fn logm_with(
+    rows: usize,
+    columns: usize,
+    a: &[f32],
+    out: &mut [f32],
+    w: &mut [f32],
+    clears: bool,
+) -> Answer
+    ensures { λ r. ⌜ OneOutputWith clears (logmOf binary32 rows columns (now (a .entry)) (length (now (out .entry))) (length (now (w .entry)))) (r .outcome) (now (out .entry)) (now (out .exit)) (now (w .entry)) (now (w .exit)) ⌝ }
+{
+    match ask_logm(rows, columns, a, out.len(), w.len()) {
+        Question::No(why) => refused(why),
+        Question::Passed => {
+            copy_in(w, 0, a);
+            let outcome = logm_in(w, rows);
+            deliver(outcome, out, w, clears)
+        }
+    }
+}
+
+// The logarithm of the matrix a is written to out.
+pub fn logm(rows: usize, columns: usize, a: &[f32], out: &mut [f32], w: &mut [f32]) -> Answer
+    ensures { λ r. ⌜ OneOutputIn (logmOf binary32 rows columns (now (a .entry)) (length (now (out .entry))) (length (now (w .entry)))) (r .outcome) (now (out .entry)) (now (out .exit)) (now (w .entry)) (now (w .exit)) ⌝ }
+{
+    logm_with(rows, columns, a, out, w, true)
+}
+
+// `frechet_logm`, where the workspace is cleared only if `clears` is true.
+pub fn frechet_logm_with(
+    rows: usize,
+    columns: usize,
+    a: &[f32],
+    height: usize,
+    width: usize,
+    e: &[f32],
+    first: &mut [f32],
+    second: &mut [f32],
+    w: &mut [f32],
+    clears: bool,
+) -> Answer
+    ensures { λ r. ⌜ TwoOutputsWith clears (frechetLogm binary32 rows columns (now (a .entry)) height width (now (e .entry)) (length (now (first .entry))) (length (now (second .entry))) (length (now (w .entry)))) (r .outcome) (now (first .entry)) (now (first .exit)) (now (second .entry)) (now (second .exit)) (now (w .entry)) (now (w .exit)) ⌝ }
+{
+    match ask_frechet_logm(
+        rows,
+        columns,
+        a,
+        height,
+        width,
+        e,
+        first.len(),
+        second.len(),
+        w.len(),
+    ) {
+        Question::No(why) => refused(why),
+        Question::Passed => {
+            copy_in(w, 0, a);
+            copy_in(w, 4, e);
+            let outcome = frechet_logm_in(w, rows);
+            deliver_both(outcome, first, second, w, clears)
+        }
+    }
+}
+
+// The logarithm of the matrix a is written to first, and its derivative in the direction e, of height by width, to second.
+pub fn frechet_logm(
+    rows: usize,
+    columns: usize,
+    a: &[f32],
+    height: usize,
+    width: usize,
+    e: &[f32],
+    first: &mut [f32],
+    second: &mut [f32],
+    w: &mut [f32],
+) -> Answer
+    ensures { λ r. ⌜ TwoOutputsIn (frechetLogm binary32 rows columns (now (a .entry)) height width (now (e .entry)) (length (now (first .entry))) (length (now (second .entry))) (length (now (w .entry)))) (r .outcome) (now (first .entry)) (now (first .exit)) (now (second .entry)) (now (second .exit)) (now (w .entry)) (now (w .exit)) ⌝ }
+{
+    frechet_logm_with(rows, columns, a, height, width, e, first, second, w, true)
+}

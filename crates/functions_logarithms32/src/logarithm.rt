@@ -1,0 +1,159 @@
+// The logarithm, in a workspace: the matrix stands in slot 0, and slots 1 to 3 are scratch. Square roots are taken until it is near I; then comes the
+// series of log (I + X), with X in slot 0, a power of it in slot 1, the sum in slot 2 and a term in slot 3; then a power of two.
+ghost use mathlib.Core.Path.{_≡_};
+ghost use mathlib.Core.List.{[], _∷_};
+ghost use Prim.Native.Nat.{_≤_};
+ghost use lib.Ieee.{binary32, le, mul};
+ghost use Rattle.arithmetic_floats.specs.Float.{epsilon};
+ghost use Rattle.arithmetic_matrices.specs.Norm.{frobenius as frobeniusOf};
+ghost use Rattle.arithmetic_matrices.specs.Workspace.{Room, slot};
+ghost use Rattle.arithmetic_questions.specs.Kernels.{Replaced};
+ghost use Rattle.functions_definitions.specs.Logarithm.{isFar, seriesStep, seriesCoefficient, logarithm};
+ghost use Rattle.functions_roots.specs.Kernels.{tested, OnePass};
+ghost use Rattle.functions_logarithms.specs.Kernels.{RootingPass, RootsTaken, seriesIn, TermsAdded, SeriesSummed, LogarithmNear};
+use crate::newton::newton_root;
+use arithmetic_floats32::float::of_small;
+use arithmetic_floats32::float::power_of_two;
+use arithmetic_floats32::root::sqrt;
+use arithmetic_matrices32::norm::norm_1_minus_identity;
+use arithmetic_matrices32::norm::sums_of_squares;
+use arithmetic_matrices32::workspace::add;
+use arithmetic_matrices32::workspace::copy;
+use arithmetic_matrices32::workspace::minus_identity;
+use arithmetic_matrices32::workspace::mult;
+use arithmetic_matrices32::workspace::scale;
+use arithmetic_matrices32::workspace::times;
+use arithmetic_matrices32::workspace::zero;
+use arithmetic_questions::answer::Outcome;
+use arithmetic_questions::answer::Refusal;
+use functions_logarithms::logarithm::Roots;
+use functions_roots::pass::Pass;
+use functions_roots::pass::answers;
+
+// Whether the 1-norm of the matrix less I exceeds 0.1.
+fn is_far(w: &[f32], n: usize) -> bool
+    requires { ⌜ Room n (now w) ⌝ }
+    ensures { λ r. ⌜ r ≡ isFar binary32 n (slot n (now (w .entry)) 0) ⌝ }
+{
+    norm_1_minus_identity(w, 0, n) > 0.1
+}
+
+// The matrix is replaced by its root, unless it is near I.
+fn rooting_pass(w: &mut [f32], n: usize) -> Pass
+    requires { ⌜ Room n (now w) ⌝ }
+    ensures { λ r. ⌜ RootingPass binary32 n r (now (w .entry)) (now (w .exit)) ⌝ }
+{
+    if is_far(w, n) {
+        if answers(newton_root(w, n)) {
+            copy(w, 1, 0, n);
+            Pass::Running
+        } else {
+            Pass::Failed
+        }
+    } else {
+        Pass::Stopped
+    }
+}
+
+// At most 100 roots.
+fn take_roots(w: &mut [f32], n: usize) -> Roots
+    requires { ⌜ Room n (now w) ⌝ }
+    ensures { λ r. ⌜ RootsTaken binary32 n r (now (w .entry)) (now (w .exit)) ⌝ }
+{
+    let mut k: u64 = 0;
+    while k < 100 {
+        let pass = rooting_pass(w, n);
+        match pass {
+            Pass::Running => {}
+            Pass::Stopped => return Roots::Taken(k),
+            Pass::Failed => return Roots::Refused,
+        }
+        k += 1;
+    }
+    Roots::Taken(k)
+}
+
+// The coefficient of power k: 1 / k, negated at even k.
+fn series_coefficient(k: usize) -> f32
+    requires { ⌜ k ≤ 60 ⌝ }
+    ensures { λ r. ⌜ r ≡ seriesCoefficient binary32 k ⌝ }
+{
+    if k % 2 == 0 {
+        -1.0 / of_small(k)
+    } else {
+        1.0 / of_small(k)
+    }
+}
+
+// A term is the last where its Frobenius norm is at most 2^-23 times the sum's.
+fn is_last(w: &[f32], n: usize) -> bool
+    requires { ⌜ Room n (now w) ⌝ }
+    ensures { λ r. ⌜ r ≡ le (frobeniusOf binary32 n (slot n (now (w .entry)) 3)) (mul binary32 (epsilon binary32) (frobeniusOf binary32 n (slot n (now (w .entry)) 2))) ⌝ }
+{
+    let sums = sums_of_squares(w, 768, 512, n * n);
+    sqrt(sums.first) <= 1.1920929e-7 * sqrt(sums.second)
+}
+
+// The next power's term, which is term k + 2, is added. Whether it is the last.
+fn series_pass(w: &mut [f32], k: usize, n: usize) -> bool
+    requires { ⌜ Room n (now w) ⌝ }
+    requires { ⌜ k ≤ 58 ⌝ }
+    ensures { λ r. ⌜ OnePass (seriesStep binary32 n (slot n (now (w .entry)) 0) k) (seriesIn n) (1 ∷ 2 ∷ 3 ∷ []) (tested r) (now (w .entry)) (now (w .exit)) ⌝ }
+{
+    mult(w, 1, 0, 3, n);
+    copy(w, 3, 1, n);
+    times(w, 1, 3, series_coefficient(k + 2), n);
+    add(w, 2, 3, n);
+    is_last(w, n)
+}
+
+// The terms 2 to 60, or up to the last.
+fn add_terms(w: &mut [f32], n: usize)
+    requires { ⌜ Room n (now w) ⌝ }
+    ensures { λ _. ⌜ TermsAdded binary32 n (now (w .entry)) (now (w .exit)) ⌝ }
+{
+    let mut k = 0;
+    while k < 59 {
+        if series_pass(w, k, n) {
+            return;
+        }
+        k += 1;
+    }
+}
+
+// The sum of the series of log (I + X). The first term is added to +0.
+fn sum_series(w: &mut [f32], n: usize)
+    requires { ⌜ Room n (now w) ⌝ }
+    ensures { λ _. ⌜ SeriesSummed binary32 n (now (w .entry)) (now (w .exit)) ⌝ }
+{
+    copy(w, 0, 1, n);
+    zero(w, 2, n);
+    add(w, 2, 1, n);
+    add_terms(w, n);
+}
+
+// The logarithm of a matrix near I, times 2^roots, takes its place.
+fn near_logarithm(w: &mut [f32], n: usize, roots: u64)
+    requires { ⌜ Room n (now w) ⌝ }
+    requires { ⌜ roots ≤ 100 ⌝ }
+    ensures { λ _. ⌜ LogarithmNear binary32 n roots (now (w .entry)) (now (w .exit)) ⌝ }
+{
+    minus_identity(w, 0, n);
+    sum_series(w, n);
+    scale(w, 2, power_of_two(roots), n);
+    copy(w, 2, 0, n);
+}
+
+// The logarithm of the matrix of order n in slot 0 takes its place. Running out of roots or terms still answers.
+pub fn logm_in(w: &mut [f32], n: usize) -> Outcome
+    requires { ⌜ Room n (now w) ⌝ }
+    ensures { λ r. ⌜ Replaced (0 ∷ 1 ∷ 2 ∷ 3 ∷ []) n (logarithm binary32 n (slot n (now (w .entry)) 0)) r (now (w .entry)) (now (w .exit)) ⌝ }
+{
+    match take_roots(w, n) {
+        Roots::Taken(roots) => {
+            near_logarithm(w, n, roots);
+            Outcome::Done { halvings: 0 }
+        }
+        Roots::Refused => Outcome::Refused(Refusal::NotConverged),
+    }
+}

@@ -1,0 +1,79 @@
+// Newton's iteration for a square root, in a workspace: the matrix a of order n stands in slot 0, x in slot 1, and slots 2 and 3 are scratch.
+ghost use mathlib.Core.Path.{_≡_};
+ghost use mathlib.Core.List.{[], _∷_};
+ghost use lib.Ieee.{binary32};
+ghost use Rattle.arithmetic_matrices.specs.Workspace.{Room, slot};
+ghost use Rattle.functions_definitions.specs.Roots.{passLimit, newtonStep, newtonScale};
+ghost use Rattle.functions_roots.specs.Kernels.{NewtonMean, OnePass, Passes, NewtonRoot};
+use arithmetic_floats32::float::of_small;
+use arithmetic_floats32::root::sqrt;
+use arithmetic_matrices32::norm::sum_of_squared_differences;
+use arithmetic_matrices32::norm::trace;
+use arithmetic_matrices32::workspace::copy;
+use arithmetic_matrices32::workspace::diagonal;
+use arithmetic_matrices32::workspace::mean;
+use functions_roots::pass::Pass;
+use functions_roots32::division::divide_slot;
+use functions_roots32::pass::root_verdict;
+use lu_factoring::LuOutcome;
+
+// x becomes the mean of itself and y, which stands in slot 3.
+fn newton_mean(w: &mut [f32], n: usize) -> Pass
+    requires { ⌜ Room n (now w) ⌝ }
+    ensures { λ r. ⌜ NewtonMean binary32 n r (now (w .entry)) (now (w .exit)) ⌝ }
+{
+    mean(w, 1, 3, 2, n);
+    let sum = sum_of_squared_differences(w, 256, 512, n * n);
+    copy(w, 2, 1, n);
+    root_verdict(sum)
+}
+
+// One pass: x becomes the mean of itself and y, where x y = a.
+fn newton_pass(w: &mut [f32], n: usize) -> Pass
+    requires { ⌜ Room n (now w) ⌝ }
+    ensures { λ r. ⌜ OnePass (newtonStep binary32 n (slot n (now (w .entry)) 0)) (λ v. slot n v 1) (1 ∷ 2 ∷ 3 ∷ []) r (now (w .entry)) (now (w .exit)) ⌝ }
+{
+    copy(w, 1, 2, n);
+    copy(w, 0, 3, n);
+    match divide_slot(w, 3, n) {
+        LuOutcome::Factored => newton_mean(w, n),
+        LuOutcome::Singular(_) => Pass::Failed,
+    }
+}
+
+// At most 100 passes.
+fn newton_passes(w: &mut [f32], n: usize) -> Pass
+    requires { ⌜ Room n (now w) ⌝ }
+    ensures { λ r. ⌜ Passes (λ _. newtonStep binary32 n (slot n (now (w .entry)) 0)) passLimit (λ v. slot n v 1) (1 ∷ 2 ∷ 3 ∷ []) r (now (w .entry)) (now (w .exit)) ⌝ }
+{
+    let mut i: u64 = 0;
+    while i < 100 {
+        let pass = newton_pass(w, n);
+        match pass {
+            Pass::Running => {}
+            Pass::Stopped => return Pass::Stopped,
+            Pass::Failed => return Pass::Failed,
+        }
+        i += 1;
+    }
+    Pass::Running
+}
+
+// The start is this times the identity: the root of trace / n, or 1 unless that exceeds 2^-23.
+fn newton_scale(w: &[f32], n: usize) -> f32
+    requires { ⌜ Room n (now w) ⌝ }
+    ensures { λ r. ⌜ r ≡ newtonScale binary32 n (slot n (now (w .entry)) 0) ⌝ }
+{
+    let root = sqrt(trace(w, 0, n) / of_small(n));
+    if root > 1.1920929e-7 { root } else { 1.0 }
+}
+
+// The root of a goes to slot 1. A pass fails where LU refuses x.
+pub fn newton_root(w: &mut [f32], n: usize) -> Pass
+    requires { ⌜ Room n (now w) ⌝ }
+    ensures { λ r. ⌜ NewtonRoot binary32 n r (now (w .entry)) (now (w .exit)) ⌝ }
+{
+    let scale = newton_scale(w, n);
+    diagonal(w, 1, scale, n);
+    newton_passes(w, n)
+}

@@ -1,0 +1,75 @@
+-- `powm_with` meets its contract. Assumes nothing.
+use mathlib.Core.Path.{refl}
+use mathlib.Core.List.{List, [], _∷_}
+use lib.ListN.{length}
+use lib.Ieee.{Float, binary32}
+use denote.Ref.{now}
+use Rattle.arithmetic_questions.specs.Questions.{Call, powered, withExponent, anywhere, ordersFromTwo, ofPowm}
+use Rattle.arithmetic_matrices.proofs.MatrixLaws.{square-le}
+use Rattle.arithmetic_questions.proofs.QuestionLaws.{Shaped, accepted}
+use Rattle.arithmetic_questions.proofs.OutputLaws.{one-refused, one-done}
+use Rattle.functions_definitions.specs.Powers.{powerM}
+use Rattle.functions_definitions.specs.Calls.{powm}
+use Rattle.functions_definitions.proofs.LateLaws.{late-power}
+use native.Mathlib.Omega.{arith}
+use borrow.Author.Needs.{needs}
+use Rattle.functions_powers32.proofs.calls.powm_with.Statement.{statement}
+use Rattle.functions_powers32.proofs.calls.powm_with.Tie as tie
+
+abbrev call : tie.Start → Call
+call s = powered (s .args .rows) (s .args .columns) (now (s .args .a)) (s .args .p) (length (now (s .args .out)) ∷ []) (length (now (s .args .w)))
+
+-- what the questions tell of the call
+passed : (told : tie.After-enum-told) → let s : tie.Start = search in Shaped (call s)
+passed told =
+    let (ask, s) : tie.After-ask-powm × tie.Start = search in
+    accepted withExponent anywhere ordersFromTwo (call s) (ask .ask-powm .result) (ask .ask-powm .ensures) (told .enum-told .given .1) .shape
+
+copy-in-requires : tie.Need-copy-in-requires
+copy-in-requires c κs =
+    let (told, s) : tie.After-enum-told × tie.Start = search in
+    let h = passed told in
+    (omega arith, omega (arith, square-le (s .args .rows) (omega (arith, h .small)), h .long, h .room))
+
+powm-in-requires : tie.Need-powm-in-requires
+powm-in-requires c κs =
+    let (copied, told) : tie.After-copy-in × tie.After-enum-told = search in
+    let h = passed told in
+    record { order = omega (arith, h .small); space = omega (arith, h .room, copied .copy-in .kept .0) }
+
+deliver-requires : tie.Need-deliver-requires
+deliver-requires c κs =
+    let (run, copied, told, s) : tie.After-powm-in × tie.After-copy-in × tie.After-enum-told × tie.Start = search in
+    let h = passed told in
+    (omega (arith, square-le (s .args .rows) (omega (arith, h .small)), h .outputs .0), omega (arith, h .room, copied .copy-in .kept .0, run .powm-in .kept .0))
+
+returns : tie.Need-returns
+unfolding powm
+returns c =
+    let (refused, why, ask, s) : tie.After-refused × tie.After-why × tie.After-ask-powm × tie.Start = search in
+    one-refused ofPowm (call s) _ (ask .ask-powm .ensures) (s .args .clears) _ _ _ (powerM binary32 (s .args .rows) (now (s .args .a)) (s .args .p)) _ (why .why .given .1) (refused .refused .ensures)
+
+returns-2 : tie.Need-returns-2
+unfolding powm
+returns-2 c =
+    let (delivered, run, copied, told, ask, s) :
+    tie.After-deliver × tie.After-powm-in × tie.After-copy-in × tie.After-enum-told × tie.After-ask-powm × tie.Start = search in
+    let h = passed told in
+    one-done ofPowm (call s) _ (ask .ask-powm .ensures) (s .args .clears) _ _ _ (0 ∷ 1 ∷ 2 ∷ 3 ∷ 4 ∷ 5 ∷ []) (s .args .rows) (λ (x : List Float). powerM binary32 (s .args .rows) x (s .args .p)) (now (s .args .a)) _ _ _ _ _
+    (told .enum-told .given .1) (late-power binary32 (s .args .rows) (now (s .args .a)) (s .args .p)) (omega (arith, h .small)) (h .room) (h .long) (h .outputs .0) refl (copied .copy-in .ensures) (run .powm-in .ensures) (delivered .deliver .ensures)
+
+pub powm-with-spec : {M : Type 1} → statement M
+powm-with-spec =
+    tie.close
+    (tie.spec
+    (λ c κs. search needs)
+    (λ c. search needs)
+    (λ c κs. search needs)
+    (λ c. search needs)
+    copy-in-requires
+    powm-in-requires
+    deliver-requires
+    returns
+    (λ c. search needs)
+    (λ c. search needs)
+    returns-2)

@@ -1,0 +1,46 @@
+-- `whole_power` meets its contract. Assumes nothing.
+use mathlib.Core.Path.{sym, ap, _∙_, subst}
+use mathlib.Core.List.{List, [], _∷_}
+use Prim.Native.Nat.{ℕ}
+use lib.Ieee.{Float, binary32}
+use Rattle.arithmetic_questions.specs.declared.answer.Outcome.the-variants.{Done}
+use Rattle.arithmetic_matrices.specs.Workspace.{slot}
+use Rattle.arithmetic_questions.specs.Result.{Result, done}
+use Rattle.arithmetic_questions.specs.Kernels.{Replaced}
+use Rattle.functions_definitions.specs.Powers.{bitPower, inversePower}
+use Rattle.functions_powers.proofs.WholeLaws.{sign-of, size-read, whole-negative, whole-positive}
+use Rattle.functions_powers.proofs.ReplacedLaws.{replaced-by}
+use borrow.Author.Needs.{needs}
+use Rattle.functions_powers32.proofs.whole.whole_power.Statement.{statement}
+use Rattle.functions_powers32.proofs.whole.whole_power.Tie as tie
+
+returns : tie.Need-returns
+returns c =
+    let (call, size-of, taken1, is-negative, s) : tie.After-inverse-power × tie.After-size-of × tie.Then1 × tie.After-is-negative × tie.Start = search in
+    let a = s .args in
+    let x = slot (a .n) (a .w .now) 0 in
+    let e = ap (inversePower binary32 (a .n) x) (size-read (a .e) (s .fits .e) (size-of .size-of .ensures)) ∙ sym (whole-negative binary32 (a .n) x (a .e) (sign-of (a .e) (s .fits .e) (is-negative .is-negative .ensures) (taken1 .if1 .taken))) in
+    subst (λ (v : Result (List Float)). Replaced (0 ∷ 1 ∷ 2 ∷ []) (a .n) v (call .inverse-power .result) (a .w .now) (call .inverse-power .last .0)) e (call .inverse-power .ensures)
+
+returns-2 : tie.Need-returns-2
+returns-2 c =
+    let (call, size-of2, left1, is-negative, s) : tie.After-bit-power × tie.After-size-of2 × tie.Else1 × tie.After-is-negative × tie.Start = search in
+    let a = s .args in
+    let x = slot (a .n) (a .w .now) 0 in
+    let w1 = call .bit-power .last .0 in
+    let e = ap (λ (k : ℕ). done 0 (bitPower binary32 (a .n) x k 64)) (size-read (a .e) (s .fits .e) (size-of2 .size-of2 .ensures)) ∙ sym (whole-positive binary32 (a .n) x (a .e) (sign-of (a .e) (s .fits .e) (is-negative .is-negative .ensures) (left1 .if1 .left))) in
+    subst (λ (v : Result (List Float)). Replaced (0 ∷ 1 ∷ 2 ∷ []) (a .n) v (Done 0) (a .w .now) w1) e (replaced-by (0 ∷ 1 ∷ 2 ∷ []) (a .n) 0 _ (a .w .now) w1 (call .bit-power .ensures .result) (call .bit-power .ensures .only))
+
+pub whole-power-spec : {M : Type 1} → statement M
+whole-power-spec =
+    tie.close
+    (tie.spec
+    (λ c κs. search needs)
+    (λ c κs. search needs)
+    (λ c κs. search needs)
+    (λ c κs. search needs)
+    (λ c κs. search needs)
+    (λ c. search needs)
+    returns
+    (λ c. search needs)
+    returns-2)

@@ -1,0 +1,21 @@
+// Systems in slots of a workspace, with room of their own for pivots.
+ghost use mathlib.Core.Path.{_≡_};
+ghost use mathlib.Core.Bool.{false};
+ghost use Prim.Native.Nat.{_<_};
+ghost use lib.Dec.{eqb};
+ghost use lib.Ieee.{binary32};
+ghost use Rattle.arithmetic_matrices.specs.Workspace.{Room};
+ghost use Rattle.functions_roots.specs.Kernels.{SlotQuotient};
+use lu_factoring::LuOutcome;
+use lu_factoring::room::pivot_room;
+use lu_systems32::workspace::divide;
+
+// The matrix of order n in slot 2 is factored, and where all its columns pass slot x becomes the quotient of its own matrix by it.
+pub fn divide_slot(w: &mut [f32], x: usize, n: usize) -> LuOutcome
+    requires { ⌜ Room n (now w) ⌝ }
+    requires { ⌜ (x < 32) × (eqb 2 x ≡ false) ⌝ }
+    ensures { λ r. ⌜ SlotQuotient binary32 n x r (now (w .entry)) (now (w .exit)) ⌝ }
+{
+    let mut rows = pivot_room();
+    divide(w, 512, 256 * x, n, n, &mut rows[..n])
+}

@@ -1,0 +1,4 @@
+// LU factoring with partial pivoting.
+pub mod factor;
+pub mod part;
+pub mod swap;

@@ -1,0 +1,3 @@
+// Systems of equations in a workspace, solved by the factors of LU.
+mod rows;
+pub mod workspace;

@@ -1,0 +1,196 @@
+// Outcomes as numbers, and the comparison of a call's outcome and outputs with what was recorded.
+ghost use Prim.Native.Nat.{_≤_};
+ghost use lib.ListN.{length};
+use crate::same_numbers;
+use arithmetic32::Outcome;
+use arithmetic32::Refusal;
+use arithmetic32::bits_of;
+use vectors_recorded::after;
+use vectors_recorded::begins;
+use vectors_recorded::outcome::LENT_PIVOT;
+use vectors_recorded::same_counts;
+use vectors_recorded::word;
+
+// An outcome: number 0 and the halvings, or the refusal's number and its two details.
+struct Report {
+    number: u64,
+    first: u64,
+    second: u64,
+}
+
+// The recorded outcome, and where the recorded outputs start.
+struct Recorded {
+    report: Report,
+    next: usize,
+}
+
+// What every lent number holds before a call.
+pub const LENT: f32 = -77.25;
+
+fn numbered(number: u64, first: usize, second: usize) -> Report {
+    Report {
+        number,
+        first: first as u64,
+        second: second as u64,
+    }
+}
+
+// A refusal by its number in document 01.
+fn refusal_report(why: Refusal) -> Report {
+    match why {
+        Refusal::EmptyMatrix => numbered(1, 0, 0),
+        Refusal::NotSquare(rows, columns) => numbered(2, rows, columns),
+        Refusal::CompanionShape(rows, columns) => numbered(3, rows, columns),
+        Refusal::TooLarge(count, limit) => numbered(4, count, limit),
+        Refusal::WrongLength(count, wanted) => numbered(5, count, wanted),
+        Refusal::EntryNotFinite(i, j) => numbered(6, i, j),
+        Refusal::DirectionNotFinite(i, j) => numbered(7, i, j),
+        Refusal::ExponentNotFinite => numbered(8, 0, 0),
+        Refusal::PivotOutOfRange(k, pivot) => numbered(9, k, pivot),
+        Refusal::NotDefined => numbered(10, 0, 0),
+        Refusal::OrderOne => numbered(11, 0, 0),
+        Refusal::NormNotFinite => numbered(12, 0, 0),
+        Refusal::NotConverged => numbered(13, 0, 0),
+        Refusal::SingularColumn(k) => numbered(14, k, 0),
+    }
+}
+
+fn report_of(outcome: Outcome) -> Report {
+    match outcome {
+        Outcome::Done { halvings } => Report {
+            number: 0,
+            first: halvings,
+            second: 0,
+        },
+        Outcome::Refused(why) => refusal_report(why),
+    }
+}
+
+// The recorded outcome with which s starts: `ok HALVINGS`, or `no NUMBER DETAIL DETAIL`.
+fn recorded_outcome(s: &[u8]) -> Recorded
+    ensures { λ r. ⌜ r .next ≤ length (now (s .entry)) ⌝ }
+{
+    let at = after(s, 0, b' ');
+    let one = word(s, at);
+    if begins(s, b"ok ") {
+        return Recorded {
+            report: Report {
+                number: 0,
+                first: one.value,
+                second: 0,
+            },
+            next: one.next,
+        };
+    }
+    let two = word(s, one.next);
+    let three = word(s, two.next);
+    Recorded {
+        report: Report {
+            number: one.value,
+            first: two.value,
+            second: three.value,
+        },
+        next: three.next,
+    }
+}
+
+fn same_report(a: Report, b: Report) -> bool {
+    a.number == b.number && a.first == b.first && a.second == b.second
+}
+
+// Whether the first numbers of x, `cleared` of them, are +0 and the others are as they were lent.
+fn cleared_to(x: &[f32], cleared: usize) -> bool {
+    let mut i = 0;
+    while i < x.len() {
+        if !is_left(x[i], i < cleared) {
+            return false;
+        }
+        i += 1;
+    }
+    true
+}
+
+// Whether x is +0, or as it was lent.
+fn is_left(x: f32, cleared: bool) -> bool {
+    if cleared {
+        bits_of(x) == 0
+    } else {
+        bits_of(x) == bits_of(LENT)
+    }
+}
+
+// Whether the pivots are as they were lent.
+fn pivots_as_lent(x: &[usize]) -> bool {
+    let mut i = 0;
+    while i < x.len() {
+        if x[i] != LENT_PIVOT {
+            return false;
+        }
+        i += 1;
+    }
+    true
+}
+
+// Whether the recorded outputs at `at`, the last of s, are x, y and the pivots.
+fn same_outputs(s: &[u8], at: usize, x: &[f32], y: &[f32], pivots: &[usize]) -> bool
+    requires { ⌜ at ≤ length (now s) ⌝ }
+{
+    let first = same_numbers(s, at, x);
+    if !first.same {
+        return false;
+    }
+    let second = same_numbers(s, first.next, y);
+    if !second.same {
+        return false;
+    }
+    let third = same_counts(s, second.next, pivots);
+    third.same && third.next == s.len()
+}
+
+// How many numbers of the workspace a call clears that ends with this number: all 8,192 where it is done or refused by 12, 13 or 14.
+fn cleared_after(number: u64) -> usize {
+    if number == 0 || 12 <= number && number <= 14 {
+        8192
+    } else {
+        0
+    }
+}
+
+// Whether the recorded outcome s is this one, the workspace w is left as it says, and x, y and the pivots are what was recorded or, after a
+// refusal, as they were lent. What a function does not have is empty.
+pub fn same_call(
+    s: &[u8],
+    outcome: Outcome,
+    x: &[f32],
+    y: &[f32],
+    pivots: &[usize],
+    w: &[f32],
+) -> bool {
+    let report = report_of(outcome);
+    let recorded = recorded_outcome(s);
+    let wanted = recorded.report;
+    if !same_report(report, wanted) || !cleared_to(w, cleared_after(report.number)) {
+        return false;
+    }
+    if report.number == 0 {
+        return same_outputs(s, recorded.next, x, y, pivots);
+    }
+    let lent = cleared_to(x, 0) && cleared_to(y, 0) && pivots_as_lent(pivots);
+    lent && recorded.next == s.len()
+}
+
+// Whether the recorded outcome s is this one, the workspace w is left as it says, and the returned numbers x are what was recorded or, after a
+// refusal, +0.
+pub fn same_values(s: &[u8], outcome: Outcome, x: &[f32], w: &[f32]) -> bool {
+    let report = report_of(outcome);
+    let recorded = recorded_outcome(s);
+    let wanted = recorded.report;
+    if !same_report(report, wanted) || !cleared_to(w, cleared_after(report.number)) {
+        return false;
+    }
+    if report.number == 0 {
+        same_outputs(s, recorded.next, x, &[], &[])
+    } else {
+        cleared_to(x, x.len()) && recorded.next == s.len()
+    }
+}

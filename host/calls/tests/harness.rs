@@ -1,0 +1,278 @@
+//! The harness itself, tried on a stand-in for the port that does what it must, and on stand-ins with a fault. At both widths.
+
+use calls::check::CLEARED;
+use calls::entries::Told;
+use calls::lent::{Lent, Slice, returned};
+use calls::make::{Trial, trial};
+use calls::run::{judge, run};
+use vectors::answer::answer;
+use vectors::call::{Call, Function, Function::*, Outcome, Refusal};
+use vectors::width::Width;
+
+/// Trials, with the outcome that each must have.
+struct Tries<T>(Vec<(Trial<T>, Outcome<T>)>);
+
+fn put<T: Width>(slice: &mut Slice<T::Word>, numbers: &[T]) {
+    for (to, x) in slice.lent_mut().iter_mut().zip(numbers) {
+        *to = T::low(x.bits());
+    }
+}
+
+/// What a call with this outcome must do. Where the source counts other halvings, the outputs are left as they are.
+fn stand_in<T: Width>(outcome: &Outcome<T>, call: &Call<T>, lent: &mut Lent<T>) -> Told {
+    let (number, report) = match outcome {
+        Outcome::Done(done) => (0, [done.halvings, 0]),
+        Outcome::Refused(Refusal(number, first, second)) => (*number, [*first, *second]),
+        Outcome::Parted => (0, [0, 0]),
+    };
+    if !(1..=11).contains(&number) {
+        lent.room.lent_mut().iter_mut().take(CLEARED).for_each(|x| *x = T::low(0));
+    }
+    match outcome {
+        Outcome::Done(done) if returned(call.function) > 0 => put(&mut lent.numbers, &done.outputs[0]),
+        Outcome::Done(done) => {
+            put(&mut lent.outputs[0], &done.outputs[0]);
+            put(&mut lent.outputs[1], &done.outputs[1]);
+            lent.pivots.lent_mut().copy_from_slice(&done.pivots);
+        }
+        _ => put(&mut lent.numbers, &[T::zero(); 3]),
+    }
+    Told { number, report }
+}
+
+impl<T: Width> Tries<T> {
+    fn new() -> Tries<T> {
+        let tried = |k| {
+            let t = trial::<T>(1, k);
+            let outcome = answer(&t.call);
+            (t, outcome)
+        };
+        Tries((0..3000).map(tried).collect())
+    }
+
+    /// The first call that is found of a stand-in that is changed after it did what it must, and what is said of it.
+    fn found(&self, change: impl Fn(&Call<T>, &mut Lent<T>, &mut Told)) -> (&Call<T>, String) {
+        let fault = |t: &Trial<T>, outcome: &Outcome<T>| {
+            let entry = |call: &Call<T>, lent: &mut Lent<T>| {
+                let mut told = stand_in(outcome, call, lent);
+                change(call, lent, &mut told);
+                told
+            };
+            judge(&entry, t, outcome).err()
+        };
+        let first = self.0.iter().find_map(|(t, outcome)| fault(t, outcome).map(|fault| (&t.call, fault)));
+        first.expect("a difference")
+    }
+
+    /// The function of the first call that is found.
+    fn function(&self, change: impl Fn(&Call<T>, &mut Lent<T>, &mut Told)) -> Function {
+        self.found(change).0.function
+    }
+}
+
+/// Another bit at a place, where the slice has it.
+fn flip<T: Width>(slice: &mut Slice<T::Word>, at: usize, bit: u32) {
+    if let Some(x) = slice.lent_mut().get_mut(at) {
+        *x = T::low((*x).into() ^ 1 << bit);
+    }
+}
+
+/// Another last bit of the last number.
+fn flip_last<T: Width>(slice: &mut Slice<T::Word>) {
+    let at = slice.lent().len().wrapping_sub(1);
+    flip::<T>(slice, at, 0);
+}
+
+fn wrong_numbers<T: Width>(tries: &Tries<T>) {
+    tries.found(|_, lent, told| {
+        if told.number == 0 {
+            flip_last::<T>(&mut lent.outputs[0])
+        }
+    });
+    let function = tries.function(|_, lent, told| {
+        if told.number == 0 {
+            flip_last::<T>(&mut lent.outputs[1])
+        }
+    });
+    assert!(function.directed());
+    for (wrong, at) in [(CondExpm, 0), (CondExpm, 1), (CondExpm, 2), (LuDeterminant, 0)] {
+        for bit in [0, T::BITS - 1] {
+            let change = |call: &Call<T>, lent: &mut Lent<T>, told: &mut Told| {
+                if call.function == wrong && told.number == 0 {
+                    flip::<T>(&mut lent.numbers, at, bit);
+                }
+            };
+            assert_eq!(tries.function(change), wrong);
+        }
+    }
+    // One function alone, from order 3 on.
+    let (call, _) = tries.found(|call, lent, told| {
+        if call.function == Sinm && call.rows >= 3 && told.number == 0 {
+            flip::<T>(&mut lent.outputs[0], 8, 0);
+        }
+    });
+    assert!(call.function == Sinm && call.rows >= 3);
+}
+
+/// Halvings and details that are not the right ones, and numbers of other refusals. At 8 and 10 to 13 both details are 0.
+fn wrong_reports<T: Width>(tries: &Tries<T>) {
+    for place in 0..2 {
+        for number in 0..=14 {
+            let (_, fault) = tries.found(|_, _, told| {
+                if told.number == number {
+                    told.report[place] += 1
+                }
+            });
+            assert!(fault.contains(&format!("number: {number},")), "{fault}");
+        }
+    }
+    for number in 1..=14 {
+        let (_, fault) = tries.found(|_, _, told| {
+            if told.number == number {
+                told.number = number % 11 + 1
+            }
+        });
+        assert!(number > 11 || fault.contains(&format!("wanted Told {{ number: {number},")), "{fault}");
+    }
+}
+
+/// A change of one NaN's sign, payload or kind that is left is found, and so is a number of the workspace that is not cleared, or is.
+fn wrong_leavings<T: Width>(tries: &Tries<T>) {
+    for bit in [0, T::FRACTION - 1, T::BITS - 1] {
+        tries.found(|_, lent, told| {
+            if told.number > 0 {
+                flip::<T>(&mut lent.outputs[0], 0, bit)
+            }
+        });
+        tries.found(|_, lent, told| {
+            if told.number > 11 {
+                flip::<T>(&mut lent.outputs[0], 3, bit)
+            }
+        });
+        tries.found(|_, lent, told| {
+            if told.number > 0 {
+                flip::<T>(&mut lent.outputs[1], 0, bit)
+            }
+        });
+        for at in [0, CLEARED - 1, CLEARED, CLEARED + 40] {
+            tries.found(|_, lent, told| {
+                if told.number > 11 {
+                    flip::<T>(&mut lent.room, at, bit)
+                }
+            });
+            tries.found(|_, lent, told| {
+                if told.number == 0 {
+                    flip::<T>(&mut lent.room, at, bit)
+                }
+            });
+            tries.found(|_, lent, told| {
+                if (1..=11).contains(&told.number) {
+                    flip::<T>(&mut lent.room, at, bit)
+                }
+            });
+        }
+        let (_, fault) = tries.found(|call, lent, told| {
+            if call.function == CondExpm && told.number > 0 {
+                flip::<T>(&mut lent.numbers, 2, bit);
+            }
+        });
+        assert!(fault.contains("beside a refusal"), "{fault}");
+    }
+    let pivots = |lent: &mut Lent<T>| lent.pivots.lent_mut().iter_mut().take(1).for_each(|x| *x ^= 1);
+    tries.found(|_, lent, told| {
+        if told.number == 0 {
+            pivots(lent)
+        }
+    });
+    tries.found(|_, lent, told| {
+        if told.number == 14 {
+            pivots(lent)
+        }
+    });
+}
+
+fn beside_the_slices<T: Width>(tries: &Tries<T>) {
+    let after = |slice: &mut Slice<T::Word>| *slice.after_mut() = T::low(0);
+    let beside = |change: &dyn Fn(&mut Lent<T>)| {
+        let (_, fault) = tries.found(|_, lent, told| {
+            if told.number == 0 {
+                change(lent)
+            }
+        });
+        assert!(fault.contains("a place beside a lent slice is changed"), "{fault}");
+    };
+    beside(&|lent| after(&mut lent.outputs[0]));
+    beside(&|lent| after(&mut lent.outputs[1]));
+    beside(&|lent| after(&mut lent.room));
+    beside(&|lent| after(&mut lent.numbers));
+    beside(&|lent| *lent.pivots.after_mut() ^= 1);
+}
+
+/// A call outside the compared domain must still be done and clear its workspace.
+fn outside_the_compared_domain<T: Width>(tries: &Tries<T>) {
+    let near = |call: &Call<T>| match answer(call) {
+        Outcome::Done(done) => done.near,
+        outcome => matches!(outcome, Outcome::Parted),
+    };
+    let halving = |call: &Call<T>| matches!(call.function, Expm | Cosm | Sinm | FrechetExpm | CondExpm);
+    let (call, _) = tries.found(|call, _, told| {
+        if halving(call) && near(call) {
+            told.number = 13
+        }
+    });
+    assert!(near(call));
+    let change = |call: &Call<T>, lent: &mut Lent<T>, _: &mut Told| {
+        if halving(call) && near(call) {
+            flip::<T>(&mut lent.room, 0, 0)
+        }
+    };
+    assert!(near(tries.found(change).0));
+}
+
+/// The stand-in passes, and each fault is found.
+fn harness<T: Width>() {
+    let tries = Tries::<T>::new();
+    for (t, outcome) in &tries.0 {
+        let right = judge(&|call: &Call<T>, lent: &mut Lent<T>| stand_in(outcome, call, lent), t, outcome);
+        assert!(right.is_ok(), "{right:?}");
+    }
+    wrong_numbers(&tries);
+    wrong_reports(&tries);
+    wrong_leavings(&tries);
+    beside_the_slices(&tries);
+    outside_the_compared_domain(&tries);
+}
+
+#[test]
+fn faults_are_found() {
+    harness::<f64>();
+}
+
+#[test]
+fn faults_are_found_in_f32() {
+    harness::<f32>();
+}
+
+/// A run counts every call, and ends at the first that differs.
+#[test]
+fn a_run_ends_at_the_first_difference() {
+    let right = |call: &Call<f32>, lent: &mut Lent<f32>| stand_in(&answer(call), call, lent);
+    let tally = run::<f32>(&right, 1, 0..200, |_, _| {}).unwrap_or_else(|d| panic!("{d}"));
+    assert_eq!(tally.compared() + tally.left_out(), 200);
+    let wrong = |call: &Call<f32>, lent: &mut Lent<f32>| {
+        let told = right(call, lent);
+        if call.function == Kron { Told { report: [1, 0], ..told } } else { told }
+    };
+    let d = run::<f32>(&wrong, 1, 0..200, |_, _| {}).err().expect("a difference");
+    assert_eq!(d.call.function, Kron);
+    assert!(d.to_string().contains("(f32) differs:\nkron "), "{d}");
+    assert!((0..d.number).all(|k| trial::<f32>(1, k).call.function != Kron));
+}
+
+/// Trials of one seed are the same each time, whichever comes first.
+#[test]
+fn trials_repeat() {
+    let calls = |seed| (0..50).map(|k| format!("{:?}", trial::<f32>(seed, k).call)).collect::<Vec<_>>();
+    assert_eq!(calls(3), calls(3));
+    assert_ne!(calls(3), calls(4));
+}
