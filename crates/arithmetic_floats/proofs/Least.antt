@@ -14,7 +14,6 @@ use lib.Ieee.Positive.{num, den, den-pos}
 use lib.Ieee.Scale.{finite}
 use Rattle.arithmetic_floats.specs.Float.{halvings, magnitude, Least, +zero, one}
 use Rattle.arithmetic_floats.proofs.Order.{or-le, le-or}
-use Rattle.arithmetic_floats.proofs.Zero.{fits-parts}
 use Rattle.arithmetic_floats.proofs.Patterns.{twice-hid}
 use Rattle.arithmetic_floats.proofs.Middle.{pow-lt-back}
 use Rattle.arithmetic_floats.proofs.Cases as cases
@@ -201,22 +200,6 @@ module _ (f : Format) (x : Float) (s : Plain x) (held : T (fits f x)) where
 
     pub past-power : (toBits f x % hid f ≡ 0 → ⊥) → toBits f x / hid f - emax f + 1 ≡ halvings x
     past-power = subst (λ (v : Float). (toBits f v % hid f ≡ 0 → ⊥) → toBits f v / hid f - emax f + 1 ≡ halvings v) (sym (s .2)) (least-above f (s .0) (s .1) at over)
-
--- ---- no more halvings than the format's largest exponent and one
-
-least-le : (n d s t : ℕ) → Least n d s → n ≤ 2 ^ t * d → s ≤ t
-least-le n d s t a h = le-of-suc-le-suc (lt-of-not-le (λ (g : suc t ≤ s). not-le-of-lt (a .1 t g) h))
-
-pub halvings-le : (f : Format) (x : Float) → T (fits f x) → halvings x ≤ suc (emax f)
-halvings-le f x h = least-le (num x) (den x) (halvings x) (suc (emax f)) (halvings-least x) (range x h)
-  where
-    nothing : {n : ℕ} → 0 ≤ n
-    nothing = omega arith
-
-    range : (x : Float) → T (fits f x) → num x ≤ 2 ^ suc (emax f) * den x
-    range nan h = nothing
-    range (inf s) h = nothing
-    range (fin s m e) h = le-of-lt (fits-parts f s m e h .under)
 
 -- a sign does not count
 pub halvings-magnitude : (x : Float) → halvings (magnitude x) ≡ halvings x

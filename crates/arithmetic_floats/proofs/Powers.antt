@@ -2,7 +2,7 @@
 use mathlib.Core.Path.{_≡_, refl, sym, ap, _∙_}
 use mathlib.Core.Bool.{Bool, true, false, not, cond, _&&_}
 use Prim.Native.Nat.{ℕ, zero, suc, _+_, _-_, _*_, _/_, _%_, _^_, _≤_, _<_}
-use native.Mathlib.Nat.{le-refl, le-of-eq, le-of-lt, lt-of-lt-of-le, lt-of-le-of-lt, one-mul, zero-mul, zero-add, mul-right-comm, mul-lt-mul-of-pos-right, lt-of-mul-lt-mul-right, mul-div-cancel, div-one, suc-mul}
+use native.Mathlib.Nat.{le-refl, le-of-eq, lt-of-lt-of-le, lt-of-le-of-lt, one-mul, mul-right-comm, mul-lt-mul-of-pos-right, lt-of-mul-lt-mul-right, mul-div-cancel, suc-mul}
 use native.Mathlib.Omega.{arith}
 use lib.IntN.{ℤ, pos, negsuc}
 use lib.Dec.{T, leb, ltb, eqb, nleb→lt, le→leb, lt→ltb}
@@ -52,7 +52,7 @@ module _ (f : Format) (i : ℕ) (i-le : i ≤ low f + emax f) where
   long : size (2 ^ i) ≡ suc i
   long = size-is (2 ^ i) i (le-refl (2 ^ i)) (pow-lt (le-refl (suc i)))
 
-  -- a normal one: nothing but the exponent's field
+  -- where it is normal: nothing but the exponent's field
   pub pow-bits : prec f ≤ suc i → ofBits f ((i + 2 - prec f) * hid f) ≡ fin false 1 e
   pow-bits h =
       let k = suc i - prec f in
@@ -69,18 +69,6 @@ module _ (f : Format) (i : ℕ) (i-le : i ≤ low f + emax f) where
 
       field : (p : ℕ) → p ≤ suc i → suc (suc i - p) ≡ i + 2 - p
       field p b = omega arith
-
-  -- a subnormal one: one digit
-  pub pow-bits-low : i < prec f → ofBits f (2 ^ i) ≡ fin false 1 e
-  pow-bits-low h =
-      let bits : toBits f (fin false 1 e) ≡ 2 ^ i =
-      toBits-of f (fin false 1 e) (2 ^ i) value
-      ∙ ap (λ (n : ℕ). n * hid f + 2 ^ i / 2 ^ n) (ap (λ (n : ℕ). n - prec f) long ∙ none (prec f) h)
-      ∙ ap (λ (n : ℕ). n + 2 ^ i / 1) (zero-mul (hid f)) ∙ zero-add (2 ^ i / 1) ∙ div-one (2 ^ i) in
-      ap (ofBits f) (sym bits) ∙ ofBits-toBits f (fin false 1 e) pow-fits
-    where
-      none : (p : ℕ) → i < p → suc i - p ≡ 0
-      none p h = omega arith
 
 -- ---- 2 ^ s and 2 ^ -s
 
@@ -129,7 +117,7 @@ power-bits f s h =
 pub power-no-nan : (f : Format) (s : ℕ) → s ≤ emax f → T (not (nanBits f ((s + emax f) * hid f)))
 power-no-nan f s h = low-no-nan f ((s + emax f) * hid f) (below-top f (s + emax f) (omega arith))
 
--- 2 ^ -s: the exponent's field, and from emax on one digit
+-- 2 ^ -s, where it is normal: the exponent's field
 pub inverse-bits : (f : Format) (s : ℕ) → s < emax f → ofBits f ((emax f - s) * hid f) ≡ inversePowerOfTwo s
 inverse-bits f s h =
     ap (λ (n : ℕ). ofBits f (n * hid f)) (field (emax f) (prec f) h (two f) (reach f))
@@ -147,21 +135,3 @@ inverse-bits f s h =
 
 pub inverse-no-nan : (f : Format) (s : ℕ) → T (not (nanBits f ((emax f - s) * hid f)))
 inverse-no-nan f s = low-no-nan f ((emax f - s) * hid f) (below-top f (emax f - s) (omega arith))
-
-pub inverse-bits-low : (f : Format) (s : ℕ) → emax f ≤ s → s ≤ low f → ofBits f (2 ^ (low f - s)) ≡ inversePowerOfTwo s
-inverse-bits-low f s h k =
-    pow-bits-low f (low f - s) (omega arith) (few (emax f) (prec f) h (two f))
-    ∙ inverse-is (low f) s k
-  where
-    few : (e p : ℕ) → e ≤ s → 2 ≤ p → e + p - 2 - s < p
-    few e p a b = omega arith
-
-pub inverse-low-no-nan : (f : Format) (s : ℕ) → emax f ≤ s → T (not (nanBits f (2 ^ (low f - s))))
-inverse-low-no-nan f s h =
-    low-no-nan f (2 ^ (low f - s)) (lt-of-lt-of-le (pow-lt (few (emax f) (prec f) h (two f))) (le-of-lt (lt-of-le-of-lt (le-of-eq (sym (one-mul (hid f)))) (below-top f 1 (one-le (emax f) (prec f) (two f) (reach f))))))
-  where
-    few : (e p : ℕ) → e ≤ s → 2 ≤ p → e + p - 2 - s < p - 1
-    few e p a b = omega arith
-
-    one-le : (e p : ℕ) → 2 ≤ p → p ≤ suc e → 1 ≤ 2 * e
-    one-le e p a b = omega arith

@@ -58,16 +58,12 @@ pub fn power_of_two(s: u64) -> f64
     f64::from_bits((s + 1023) * 0x10_0000_0000_0000)
 }
 
-// 2^-s, by its exponent's field, and below the smallest normal value by its one digit.
+// 2^-s, a normal value, by its exponent's field.
 pub fn inverse_power_of_two(s: u64) -> f64
-    requires { ⌜ s ≤ 1074 ⌝ }
+    requires { ⌜ s < 1023 ⌝ }
     ensures { λ r. ⌜ r ≡ inversePowerOfTwo s ⌝ }
 {
-    if s < 1023 {
-        f64::from_bits((1023 - s) * 0x10_0000_0000_0000)
-    } else {
-        f64::from_bits(1 << (1074 - s))
-    }
+    f64::from_bits((1023 - s) * 0x10_0000_0000_0000)
 }
 
 // The value with these bits, which is not negative and below 2^52, plus a half, without its fraction.

@@ -1,7 +1,7 @@
 // Floats of 32 bits one by one. A value of an `f32` is a value of an `f64`: the halvings and the test of an exponent are those of the widened number.
 ghost use mathlib.Core.Path.{_≡_};
 ghost use mathlib.Core.Bool.{_&&_};
-ghost use Prim.Native.Nat.{_^_, _≤_};
+ghost use Prim.Native.Nat.{_^_, _≤_, _<_};
 ghost use lib.Dec.{T};
 ghost use lib.IntN.{pos};
 ghost use lib.Ieee.{binary32, binary64, ofInt, ofBits, toBits};
@@ -48,16 +48,12 @@ pub fn power_of_two(s: u64) -> f32
     f32::from_bits(((s + 127) * 0x80_0000) as u32)
 }
 
-// 2^-s, by its exponent's field, and below the smallest normal value by its one digit.
+// 2^-s, a normal value, by its exponent's field.
 pub fn inverse_power_of_two(s: u64) -> f32
-    requires { ⌜ s ≤ 149 ⌝ }
+    requires { ⌜ s < 127 ⌝ }
     ensures { λ r. ⌜ r ≡ inversePowerOfTwo s ⌝ }
 {
-    if s < 127 {
-        f32::from_bits(((127 - s) * 0x80_0000) as u32)
-    } else {
-        f32::from_bits(1 << (149 - s))
-    }
+    f32::from_bits(((127 - s) * 0x80_0000) as u32)
 }
 
 // The whole number n, which is a value of its own.

@@ -4,20 +4,16 @@ use native.Mathlib.Numerals.{add-one}
 use native.Mathlib.Omega.{arith}
 use mathlib.Core.Path.{_≡_, refl, _∙_, ap}
 use mathlib.Core.List.{List}
-use mathlib.Core.Bool.{false}
 use lib.ListN.{getD}
-use lib.Dec.{T}
-use lib.Ieee.{Float, Format, nan, lt, fits, ofBits}
-use lib.Ieee.Fits.{cond-fits}
+use lib.Ieee.{Float, Format, nan, ofBits}
 use Rattle.arithmetic_floats.specs.Float.{magnitude, larger}
 use Rattle.arithmetic_floats.proofs.Constants.{+zero-bits}
-use Rattle.arithmetic_floats.proofs.Zero.{zero-fits}
-use Rattle.arithmetic_matrices.specs.Matrix.{part, tab, grid, item, at}
+use Rattle.arithmetic_matrices.specs.Matrix.{part, tab, grid, item}
 use Rattle.arithmetic_matrices.specs.Product.{dot, sum, minusIdentityEntry, minusIdentityM}
 use Rattle.arithmetic_matrices.specs.Norm.{sumOfMagnitudes, largest, norm1, sumOfSquares, trace}
 use Rattle.arithmetic_matrices.proofs.MatrixLaws.{getD-tab, at-grid}
 use Rattle.arithmetic_matrices.proofs.PartLaws.{at-part}
-use Rattle.arithmetic_matrices.proofs.ProductLaws.{sum-fits, sum-cong, dot-cong, minusIdentityM-part}
+use Rattle.arithmetic_matrices.proofs.ProductLaws.{sum-cong, dot-cong, minusIdentityM-part}
 
 -- ---- sums of magnitudes
 
@@ -39,16 +35,6 @@ pub largest-cong : (k : ℕ) (g h : ℕ → Float) → ((i : ℕ) → i < k → 
 unfolding largest
 largest-cong zero g h e = refl
 largest-cong (suc k) g h e = λ i. larger (largest-cong k g h (λ j b. e j (omega arith)) i) (e k (omega arith) i)
-
--- the format holds it
-largest-fits : (f : Format) (k : ℕ) (g : ℕ → Float) → ((i : ℕ) → T (fits f (g i))) → T (fits f (largest k g))
-unfolding largest larger
-largest-fits f zero g h = zero-fits f false
-largest-fits f (suc k) g h = cond-fits f (lt (largest k g) (g k)) (g k) (largest k g) (h k) (largest-fits f k g h)
-
-pub norm-fits : (f : Format) (n : ℕ) (a : List Float) → T (fits f (norm1 f n a))
-unfolding norm1 sumOfMagnitudes
-norm-fits f n a = largest-fits f n (λ j. sumOfMagnitudes f n (λ i. at n a i j)) (λ j. sum-fits f n _)
 
 -- the 1-norm of a matrix that lies in a list
 pub norm1-part : (f : Format) (n : ℕ) (w : List Float) (x : ℕ) → norm1 f n (part w x (n * n)) ≡ largest n (λ j. sumOfMagnitudes f n (λ i. getD w (x + (i * n + j)) nan))

@@ -26,7 +26,7 @@ use Rattle.arithmetic_matrices.proofs.States.{among, member-among}
 use Rattle.arithmetic_questions.proofs.QuestionLaws.{as-refused}
 use Rattle.arithmetic_questions.proofs.AnswerLaws.{answer-passed, outcome-no, exit-no, workspace-no}
 
--- ---- refusals met on the way: 12, 13, 14
+-- ---- refusals met on the way: 12, 13, 14, 17
 
 abbrev pub Late : {A : Type 0} → Result A → Type 0
 Late (refused k x y) = 12 ≤ k

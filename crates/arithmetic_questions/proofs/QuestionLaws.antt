@@ -19,7 +19,7 @@ use Rattle.arithmetic_questions.specs.Result.{Found, refused, done, _>>=
 use Rattle.arithmetic_questions.specs.Questions.{Call, unary, powered, binary, Companion, withoutCompanion, direction, Exponent, withoutExponent, Domain, anywhere, Orders, everyOrder, Profile, atMost, exactly, outputLength, atLeast8192, firstNonfinite, placed, allFinite, exponentQuestion, domainQuestion, orderQuestion, shapeQuestions, numberQuestions, asked, coded}
 use Rattle.arithmetic_questions.specs.Answers.{numbered, scanned, found}
 use Rattle.arithmetic_questions.specs.declared.answer.Refusal.{Refusal}
-use Rattle.arithmetic_questions.specs.declared.answer.Refusal.the-variants.{EmptyMatrix, NotSquare, CompanionShape, TooLarge, WrongLength, EntryNotFinite, DirectionNotFinite, ExponentNotFinite, PivotOutOfRange, NotDefined, OrderOne, NormNotFinite, NotConverged, SingularColumn}
+use Rattle.arithmetic_questions.specs.declared.answer.Refusal.the-variants.{EmptyMatrix, NotSquare, CompanionShape, TooLarge, WrongLength, EntryNotFinite, DirectionNotFinite, ExponentNotFinite, PivotOutOfRange, NotDefined, OrderOne, NormNotFinite, NotConverged, SingularColumn, TooManyHalvings}
 use Rattle.arithmetic_questions.specs.declared.answer.Question.{Question}
 use Rattle.arithmetic_questions.specs.declared.answer.Question.the-variants.{Passed, No}
 use Rattle.arithmetic_questions.specs.declared.question.Scan.{Scan}
@@ -43,6 +43,7 @@ as-refused OrderOne = (11, 0, 0, refl)
 as-refused NormNotFinite = (12, 0, 0, refl)
 as-refused NotConverged = (13, 0, 0, refl)
 as-refused (SingularColumn k) = (14, k, 0, refl)
+as-refused (TooManyHalvings s) = (17, s, 0, refl)
 
 -- nothing is asked after a refusal
 pub refusal-ends : (x : Refusal) (g : Unit {0} → Found) → (numbered x >>= g) ≡ numbered x

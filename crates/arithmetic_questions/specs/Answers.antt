@@ -1,8 +1,8 @@
--- What the enums of src/answer.rt and src/question.rt mean: document 01's number and details for each case. Definitions only.
+-- What the enums of src/answer.rt and src/question.rt mean: the documents' number and details for each case. Definitions only.
 use Prim.Native.Nat.{ℕ}
 use Rattle.arithmetic_questions.specs.Result.{Result, Found, refused, done, passes}
 use Rattle.arithmetic_questions.specs.declared.answer.Refusal.{Refusal}
-use Rattle.arithmetic_questions.specs.declared.answer.Refusal.the-variants.{EmptyMatrix, NotSquare, CompanionShape, TooLarge, WrongLength, EntryNotFinite, DirectionNotFinite, ExponentNotFinite, PivotOutOfRange, NotDefined, OrderOne, NormNotFinite, NotConverged, SingularColumn}
+use Rattle.arithmetic_questions.specs.declared.answer.Refusal.the-variants.{EmptyMatrix, NotSquare, CompanionShape, TooLarge, WrongLength, EntryNotFinite, DirectionNotFinite, ExponentNotFinite, PivotOutOfRange, NotDefined, OrderOne, NormNotFinite, NotConverged, SingularColumn, TooManyHalvings}
 use Rattle.arithmetic_questions.specs.declared.answer.Outcome.{Outcome}
 use Rattle.arithmetic_questions.specs.declared.answer.Outcome.the-variants.{Done, Refused}
 use Rattle.arithmetic_questions.specs.declared.answer.Question.{Question}
@@ -26,6 +26,7 @@ numbered OrderOne = refused 11 0 0
 numbered NormNotFinite = refused 12 0 0
 numbered NotConverged = refused 13 0 0
 numbered (SingularColumn k) = refused 14 k 0
+numbered (TooManyHalvings s) = refused 17 s 0
 
 -- what the outcome of an answer reports: its halvings, or its refusal
 abbrev pub reported : Outcome → Result (Unit {0})

@@ -1,4 +1,4 @@
--- The questions asked of a call, 1 to 11 of document 01, each defined once, and which of them each function asks. Definitions only.
+-- The questions, 1 to 12 of document 01 and 17 of document 02, each defined once, and which of 1 to 11 each function asks of a call. Definitions only.
 use Prim.Native.Nat.{ℕ, suc, _*_, _/_, _%_}
 use mathlib.Core.Bool.{Bool, true, false, cond, _&&_}
 use mathlib.Core.List.{List, [], _∷_, _++_, map}
@@ -247,7 +247,17 @@ abbrev pub orderQuestion : Orders → Call → Found
 orderQuestion ordersFromTwo c = ask (leb 2 (c .rows)) 11 0 0
 orderQuestion everyOrder c = passes
 
--- ---- all of them in order: first shapes and lengths, 1 to 5, then the numbers, 6 to 11
+-- ---- asked on the way, by the functions that halve
+
+-- 12: is the norm that sets the halvings finite?
+abbrev pub normQuestion : Float → Found
+normQuestion x = ask (finite x) 12 0 0
+
+-- 17: are there at most 64 halvings?
+abbrev pub halvingsQuestion : ℕ → Found
+halvingsQuestion s = ask (leb s 64) 17 s 0
+
+-- ---- those of the call in order: first shapes and lengths, 1 to 5, then the numbers, 6 to 11
 
 -- 1 to 5 of a function, in order
 unfoldable pub shapeQuestions : Profile → Call → List Found

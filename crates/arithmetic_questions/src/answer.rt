@@ -19,6 +19,7 @@ pub enum Refusal {
     NormNotFinite,
     NotConverged,
     SingularColumn(usize),
+    TooManyHalvings(usize),
 }
 
 // How a call ended.

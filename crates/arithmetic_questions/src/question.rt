@@ -10,7 +10,7 @@ ghost use lib.Ieee.Scale.{finite};
 ghost use Rattle.arithmetic_floats.specs.Float.{+zero};
 ghost use Rattle.arithmetic_matrices.specs.Matrix.{item};
 ghost use Rattle.arithmetic_questions.specs.Result.{passes, firstNo, onlyWhere, ask as askOf};
-ghost use Rattle.arithmetic_questions.specs.Questions.{atMost, exactly, atLeast8192, allFinite, unary, powered, binary, shapeQuestions, asked, ofExpm, ofLogm, ofSqrtm, ofPowm, ofFrechetExpm, ofFrechetLogm, ofFrechetSqrtm, ofCondExpm};
+ghost use Rattle.arithmetic_questions.specs.Questions.{atMost, exactly, atLeast8192, allFinite, normQuestion, halvingsQuestion, unary, powered, binary, shapeQuestions, asked, ofExpm, ofLogm, ofSqrtm, ofPowm, ofFrechetExpm, ofFrechetLogm, ofFrechetSqrtm, ofCondExpm};
 ghost use Rattle.arithmetic_questions.specs.Answers.{numbered, scanned, found};
 use crate::answer::Question;
 use crate::answer::Refusal;
@@ -162,9 +162,16 @@ pub fn ask_from_two(rows: usize) -> Question
 
 // 12: is the norm that sets the halvings finite?
 pub fn ask_norm(norm: f64) -> Question
-    ensures { λ r. ⌜ found r ≡ askOf (finite norm) 12 0 0 ⌝ }
+    ensures { λ r. ⌜ found r ≡ normQuestion norm ⌝ }
 {
     ask(is_finite(norm), Refusal::NormNotFinite)
+}
+
+// 17: are there at most 64 halvings?
+pub fn ask_halvings(s: u64) -> Question
+    ensures { λ r. ⌜ found r ≡ halvingsQuestion s ⌝ }
+{
+    ask(s <= 64, Refusal::TooManyHalvings(s as usize))
 }
 
 // ---- several

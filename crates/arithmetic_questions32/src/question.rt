@@ -9,7 +9,7 @@ ghost use lib.Ieee.Scale.{finite};
 ghost use Rattle.arithmetic_floats.specs.Float.{+zero};
 ghost use Rattle.arithmetic_matrices.specs.Matrix.{item};
 ghost use Rattle.arithmetic_questions.specs.Result.{firstNo, onlyWhere, ask as askOf};
-ghost use Rattle.arithmetic_questions.specs.Questions.{allFinite, unary, powered, binary, shapeQuestions, asked, ofExpm, ofLogm, ofSqrtm, ofPowm, ofFrechetExpm, ofFrechetLogm, ofFrechetSqrtm, ofCondExpm};
+ghost use Rattle.arithmetic_questions.specs.Questions.{allFinite, normQuestion, unary, powered, binary, shapeQuestions, asked, ofExpm, ofLogm, ofSqrtm, ofPowm, ofFrechetExpm, ofFrechetLogm, ofFrechetSqrtm, ofCondExpm};
 ghost use Rattle.arithmetic_questions.specs.Answers.{scanned, found};
 use arithmetic_floats32::float::is_finite;
 use arithmetic_questions::answer::Question;
@@ -98,7 +98,7 @@ pub fn ask_nonnegative(rows: usize, a: &[f32]) -> Question
 
 // 12: is the norm that sets the halvings finite?
 pub fn ask_norm(norm: f32) -> Question
-    ensures { λ r. ⌜ found r ≡ askOf (finite norm) 12 0 0 ⌝ }
+    ensures { λ r. ⌜ found r ≡ normQuestion norm ⌝ }
 {
     ask(is_finite(norm), Refusal::NormNotFinite)
 }

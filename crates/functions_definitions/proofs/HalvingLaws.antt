@@ -1,20 +1,19 @@
 -- What the halvings that a norm sets decide. Assumes nothing.
-use Prim.Native.Nat.{ℕ, suc, _≤_}
-use native.Mathlib.Omega.{arith}
+use Prim.Native.Nat.{ℕ, _≤_}
 use mathlib.Core.Path.{_≡_, refl, sym, ap, _∙_, subst}
-use mathlib.Core.Bool.{Bool, true, false, cond}
-use mathlib.Core.List.{List}
-use lib.Dec.{T, lit≤}
-use lib.Ieee.{Float, Format, emax, fits}
+use mathlib.Core.Bool.{Bool, true, false}
+use mathlib.Core.List.{List, [], _∷_}
+use lib.Dec.{T, leb, leb→le, lit≤}
+use lib.Ieee.{Float}
 use lib.Ieee.Scale.{finite}
 use Rattle.arithmetic_floats.specs.Float.{halvings}
-use Rattle.arithmetic_questions.specs.Result.{Result, refused, done, _>>=_, outcome, passes, ask}
+use Rattle.arithmetic_questions.specs.Result.{Result, Found, refused, done, _>>=_, outcome, passes, ask, firstNo}
+use Rattle.arithmetic_questions.specs.Questions.{normQuestion, halvingsQuestion}
 use Rattle.arithmetic_questions.specs.Answers.{numbered, found}
 use Rattle.arithmetic_questions.specs.declared.answer.Question.{Question}
 use Rattle.arithmetic_questions.specs.declared.answer.Question.the-variants.{Passed, No}
 use Rattle.arithmetic_questions.specs.declared.answer.Refusal.{Refusal}
-use Rattle.arithmetic_floats.proofs.Least.{halvings-le}
-use Rattle.arithmetic_questions.proofs.QuestionLaws.{as-refused}
+use Rattle.arithmetic_questions.proofs.QuestionLaws.{as-refused, refusal-ends}
 use Rattle.arithmetic_questions.proofs.OutputLaws.{Late}
 use Rattle.functions_definitions.specs.Powers.{halvingsFor, halvingsReport}
 use Rattle.functions_definitions.specs.Derivatives.{blockQuarters}
@@ -31,68 +30,95 @@ IsDone (done s a) = Unit {0}
 pub not-done : (x : Refusal) (s : ℕ) → numbered x ≡ done s tt → ⊥
 not-done x s e = let (k, i, j, n) = as-refused x in subst IsDone (sym e ∙ n) tt
 
--- what question 12 finds and the halvings, as they are reported
-pub halvings-reported : (x : Float) → halvingsReport x ≡ cond (finite x) (done (halvings x) tt) (refused 12 0 0)
-unfolding halvingsReport halvingsFor _>>=_
-halvings-reported x = go (finite x)
-  where
-    go : (b : Bool) → (cond b (done 0 (halvings x)) (refused 12 0 0) >>= λ s. done s (tt {0})) ≡ cond b (done (halvings x) (tt {0})) (refused 12 0 0)
-    go true = refl
-    go false = refl
+-- ---- questions 12 and 17, once they are asked
 
--- question 12, once it is asked
-module _ (x : Float) (q : Question) where
-  pub passed-finite : found q ≡ ask (finite x) 12 0 0 → q ≡ Passed → T (finite x)
-  passed-finite h e = go (finite x) (sym (ap found e) ∙ h)
+-- what they find, q and r, and then the halvings: this is reported
+asked-report : (x : Float) (q r : Found) → q ≡ normQuestion x → r ≡ halvingsQuestion (halvings x) → (q >>= λ _. r >>= λ _. done (halvings x) tt) ≡ halvingsReport x
+unfolding halvingsReport halvingsFor firstNo _>>=_
+asked-report x q r e d = (λ i. e i >>= λ _. d i >>= λ _. done (halvings x) tt) ∙ go (finite x) (leb (halvings x) 64)
+  where
+    s : ℕ
+    s = halvings x
+
+    go : (b c : Bool) → (ask b 12 0 0 >>= λ _. ask c 17 s 0 >>= λ _. done s (tt {0})) ≡ ((firstNo (ask b 12 0 0 ∷ ask c 17 s 0 ∷ []) >>= λ _. done 0 s) >>= λ s. done s tt)
+    go true true = refl
+    go true false = refl
+    go false c = refl
+
+module _ (x : Float) (q : Question) (asked : found q ≡ normQuestion x) where
+  pub passed-finite : q ≡ Passed → T (finite x)
+  passed-finite e = go (finite x) (sym (ap found e) ∙ asked)
     where
       go : (b : Bool) → passes ≡ ask b 12 0 0 → T b
       go true p = tt
       go false p = absurd (subst IsDone p tt)
 
-  pub refused-report : (y : Refusal) → found q ≡ ask (finite x) 12 0 0 → q ≡ No y → numbered y ≡ halvingsReport x
-  refused-report y h e = go (finite x) (sym (ap found e) ∙ h) ∙ sym (halvings-reported x)
-    where
-      go : (b : Bool) → numbered y ≡ ask b 12 0 0 → numbered y ≡ cond b (done (halvings x) (tt {0})) (refused 12 0 0)
-      go true p = absurd (not-done y 0 p)
-      go false p = p
+  pub norm-refused : (y : Refusal) → q ≡ No y → numbered y ≡ halvingsReport x
+  norm-refused y e = sym (refusal-ends y _) ∙ asked-report x (numbered y) _ (sym (ap found e) ∙ asked) refl
 
-  pub passed-report : (s : ℕ) → found q ≡ ask (finite x) 12 0 0 → q ≡ Passed → s ≡ halvings x → done s tt ≡ halvingsReport x
-  passed-report s h e k = go (finite x) (sym (ap found e) ∙ h) ∙ sym (halvings-reported x)
-    where
-      go : (b : Bool) → passes ≡ ask b 12 0 0 → done s (tt {0}) ≡ cond b (done (halvings x) (tt {0})) (refused 12 0 0)
-      go true p = ap (λ (t : ℕ). done t (tt {0})) k
-      go false p = absurd (subst IsDone p tt)
+  -- 12 passes, and s halvings are asked
+  module _ (passed : q ≡ Passed) (s : ℕ) (count : s ≡ halvings x) (r : Question) (limited : found r ≡ halvingsQuestion s) where
+    reports : (z : Found) → z ≡ found r → (z >>= λ _. done s tt) ≡ halvingsReport x
+    unfolding _>>=_
+    reports z e = ap (λ (t : ℕ). z >>= λ _. done t (tt {0})) count ∙ asked-report x passes z (sym (ap found passed) ∙ asked) (e ∙ limited ∙ ap halvingsQuestion count)
 
--- a number of the format has at most as many as its largest exponent, and one: 1,024 for binary64, 128 for binary32
-pub passed-few : (f : Format) (x : Float) (s t : ℕ) → T (fits f x) → t ≡ halvings x → done t (tt {0}) ≡ done s (tt {0}) → s ≤ suc (emax f)
-passed-few f x s t h k e = let few : halvings x ≤ suc (emax f) = halvings-le f x h in let same : t ≡ s = ap reportedHalvings e in omega arith
+    pub halvings-refused : (y : Refusal) → r ≡ No y → numbered y ≡ halvingsReport x
+    halvings-refused y e = sym (refusal-ends y _) ∙ reports (numbered y) (sym (ap found e))
+
+    pub halvings-passed : r ≡ Passed → done s tt ≡ halvingsReport x
+    unfolding _>>=_
+    halvings-passed e = reports passes (sym (ap found e))
+
+-- ---- whatever is done at the halvings that a norm sets
+
+-- 12 and 17 are late refusals, and at most 64 halvings are left
+abbrev pub Limited : Result ℕ → Type 0
+Limited (refused k i j) = 12 ≤ k
+Limited (done t s) = s ≤ 64
+
+pub halvings-limited : (x : Float) → Limited (halvingsFor x)
+unfolding halvingsFor firstNo _>>=_
+halvings-limited x = go (finite x) (leb (halvings x) 64) (leb→le (halvings x) 64)
+  where
+    go : (b c : Bool) → (T c → halvings x ≤ 64) → Limited (firstNo (ask b 12 0 0 ∷ ask c 17 (halvings x) 0 ∷ []) >>= λ _. done 0 (halvings x))
+    go true true h = h tt
+    go true false h = lit≤ tt
+    go false c h = lit≤ tt
+
+pub halvings-few : (x : Float) (s : ℕ) → halvingsReport x ≡ done s tt → s ≤ 64
+unfolding halvingsReport _>>=_
+halvings-few x s e = go (halvingsFor x) (halvings-limited x) e
+  where
+    go : (q : Result ℕ) → Limited q → (q >>= λ s. done s (tt {0})) ≡ done s tt → s ≤ 64
+    go (refused k i j) h p = absurd (subst IsDone (sym p) tt)
+    go (done t s) h p = subst (λ (n : ℕ). n ≤ 64) (ap reportedHalvings p) h
 
 module _ {A : Type 0} (x : Float) (g : ℕ → A) where
   -- what is done at these halvings reports them
   pub halvings-outcome : outcome (halvingsFor x >>= λ s. done s (g s)) ≡ halvingsReport x
-  unfolding halvingsReport halvingsFor _>>=_ outcome
-  halvings-outcome = go (finite x)
+  unfolding halvingsReport _>>=_ outcome
+  halvings-outcome = go (halvingsFor x)
     where
-      go : (b : Bool) → outcome (cond b (done 0 (halvings x)) (refused 12 0 0) >>= λ s. done s (g s)) ≡ (cond b (done 0 (halvings x)) (refused 12 0 0) >>= λ s. done s tt)
-      go true = refl
-      go false = refl
+      go : (q : Result ℕ) → outcome (q >>= λ s. done s (g s)) ≡ (q >>= λ s. done s tt)
+      go (refused k i j) = refl
+      go (done t s) = refl
 
   -- halvings that are reported are those it is done at
   pub halvings-set : (s : ℕ) → halvingsReport x ≡ done s tt → (halvingsFor x >>= λ s. done s (g s)) ≡ done s (g s)
-  unfolding halvingsReport halvingsFor _>>=_
-  halvings-set s e = go (finite x) e
+  unfolding halvingsReport _>>=_
+  halvings-set s e = go (halvingsFor x) e
     where
-      go : (b : Bool) → (cond b (done 0 (halvings x)) (refused 12 0 0) >>= λ s. done s (tt {0})) ≡ done s (tt {0}) → (cond b (done 0 (halvings x)) (refused 12 0 0) >>= λ s. done s (g s)) ≡ done s (g s)
-      go true p = ap (λ (t : ℕ). done t (g t)) (ap reportedHalvings p)
-      go false p = absurd (subst IsDone (sym p) tt)
+      go : (q : Result ℕ) → (q >>= λ s. done s (tt {0})) ≡ done s (tt {0}) → (q >>= λ s. done s (g s)) ≡ done s (g s)
+      go (refused k i j) p = absurd (subst IsDone (sym p) tt)
+      go (done t r) p = ap (λ (n : ℕ). done n (g n)) (ap reportedHalvings p)
 
   pub halvings-late : Late (halvingsFor x >>= λ s. done s (g s))
-  unfolding halvingsFor _>>=_
-  halvings-late = go (finite x)
+  unfolding _>>=_
+  halvings-late = go (halvingsFor x) (halvings-limited x)
     where
-      go : (b : Bool) → Late (cond b (done 0 (halvings x)) (refused 12 0 0) >>= λ s. done s (g s))
-      go true = tt
-      go false = lit≤ tt
+      go : (q : Result ℕ) → Limited q → Late (q >>= λ s. done s (g s))
+      go (refused k i j) h = h
+      go (done t s) h = tt
 
 -- the quarters report what the block's exponential does
 pub quarters-outcome : (n : ℕ) (x : Result (List Float)) → outcome (blockQuarters n x) ≡ outcome x

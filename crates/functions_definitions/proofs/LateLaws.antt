@@ -1,4 +1,4 @@
--- The refusals that the functions meet on the way are late ones: 12 or 13, after which the workspace is cleared. Assumes nothing.
+-- The refusals that the functions meet on the way are late ones: 12, 13 or 17, after which the workspace is cleared. Assumes nothing.
 use mathlib.Core.List.{List, [], _∷_}
 use Prim.Native.Nat.{ℕ, _+_, _*_}
 use lib.Ieee.{Float, Format, binary64}

@@ -19,6 +19,6 @@ pub record Proviso (f : Format) (n s : ℕ) (a e : List Float) : Type 0 where
   pub accepted : luOutcome f (n + n) (denominator f (n + n) (scaled f (n + n) s (block n a e))) ≡ Factored
 
 -- Where the outcome o is done at s halvings and the proviso holds, the first output is the exponential of A alone at s, bit for bit. E occurs in the
--- proviso only. (s is the one that the run reports, of the block's norm; the public expm takes that of A's norm.)
+-- proviso only. (s is the one that the run reports, of the block's norm and at most 64; the public expm takes that of A's norm.)
 abbrev pub FirstAlone : Format → ℕ → Outcome → List Float → List Float → List Float → Type 0
 FirstAlone f n o a e first = (s : ℕ) → reported o ≡ done s tt → Proviso f n s a e → first ≡ exponential f n s a

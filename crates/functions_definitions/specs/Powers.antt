@@ -1,23 +1,23 @@
 -- expm from its norm, and powm. Definitions only.
 use Prim.Native.Nat.{ℕ, zero, suc, _/_, _%_, _^_}
 use mathlib.Core.Bool.{Bool, false, cond}
-use mathlib.Core.List.{List}
+use mathlib.Core.List.{List, [], _∷_}
 use lib.IntN.{ℤ, pos, negsuc}
 use lib.Dec.{eqb}
 use lib.Ieee.{Float, Format, binary64, round}
-use lib.Ieee.Scale.{finite}
 use Rattle.arithmetic_floats.specs.Float.{halvings, nearInteger, integerOf}
 use Rattle.arithmetic_matrices.specs.Product.{mulM, identityM, squared, timesM}
 use Rattle.arithmetic_matrices.specs.Norm.{norm1}
-use Rattle.arithmetic_questions.specs.Result.{Result, refused, done, _>>=_}
+use Rattle.arithmetic_questions.specs.Result.{Result, done, _>>=_, firstNo}
+use Rattle.arithmetic_questions.specs.Questions.{normQuestion, halvingsQuestion}
 use Rattle.lu_factoring.specs.Solve.{inverse}
 use Rattle.functions_definitions.specs.Exponential.{exponential}
 use Rattle.functions_definitions.specs.Roots.{orNotConverged}
 use Rattle.functions_definitions.specs.Logarithm.{logarithm}
 
--- the halvings that a norm sets: question 12 asks it to be finite
+-- the halvings that a norm sets, where questions 12 and 17 pass
 unfoldable pub halvingsFor : Float → Result ℕ
-halvingsFor x = cond (finite x) (done 0 (halvings x)) (refused 12 0 0)
+halvingsFor x = firstNo (normQuestion x ∷ halvingsQuestion (halvings x) ∷ []) >>= λ _. done 0 (halvings x)
 
 -- what is reported of them
 unfoldable pub halvingsReport : Float → Result (Unit {0})

@@ -135,7 +135,7 @@ fn pade(w: &mut [f32], n: usize, pivots: &mut [usize])
 // The exponential of the matrix in slot 0 at s halvings takes its place.
 fn exponential_in(w: &mut [f32], n: usize, s: u64, pivots: &mut [usize])
     requires { ⌜ Room n (now w) ⌝ }
-    requires { ⌜ (s ≤ 149) × (length (now pivots) ≡ n) ⌝ }
+    requires { ⌜ (s ≤ 64) × (length (now pivots) ≡ n) ⌝ }
     ensures { λ _. ⌜ Exponentiated binary32 n s (now (w .entry)) (now (w .exit)) ⌝ }
 {
     scale(w, 0, inverse_power_of_two(s), n);
@@ -146,7 +146,7 @@ fn exponential_in(w: &mut [f32], n: usize, s: u64, pivots: &mut [usize])
 // `exponential_in` with room of its own.
 pub fn exponential_at(w: &mut [f32], n: usize, s: u64)
     requires { ⌜ Room n (now w) ⌝ }
-    requires { ⌜ s ≤ 149 ⌝ }
+    requires { ⌜ s ≤ 64 ⌝ }
     ensures { λ _. ⌜ Exponentiated binary32 n s (now (w .entry)) (now (w .exit)) ⌝ }
 {
     let mut pivots = pivot_room();

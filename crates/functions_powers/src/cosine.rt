@@ -105,7 +105,7 @@ pub fn double_cosines(w: &mut [f64], n: usize, s: u64)
 // The cosine of the matrix in slot 0 at s halvings takes its place.
 pub fn cosine_at(w: &mut [f64], n: usize, s: u64)
     requires { ⌜ Room n (now w) ⌝ }
-    requires { ⌜ s ≤ 1074 ⌝ }
+    requires { ⌜ s ≤ 64 ⌝ }
     ensures { λ _. ⌜ CosineRun binary64 n s (now (w .entry)) (now (w .exit)) ⌝ }
 {
     scale(w, 0, inverse_power_of_two(s), n);

@@ -74,7 +74,7 @@ pub fn double_both(w: &mut [f32], n: usize, s: u64)
 // The sine of the matrix in slot 0 at s halvings takes its place.
 pub fn sine_at(w: &mut [f32], n: usize, s: u64)
     requires { ⌜ Room n (now w) ⌝ }
-    requires { ⌜ s ≤ 149 ⌝ }
+    requires { ⌜ s ≤ 64 ⌝ }
     ensures { λ _. ⌜ SineRun binary32 n s (now (w .entry)) (now (w .exit)) ⌝ }
 {
     scale(w, 0, inverse_power_of_two(s), n);

@@ -41,6 +41,7 @@ fn tell_refusal(report: &mut [usize], why: Refusal) -> u64 {
         Refusal::NormNotFinite => told(report, 0, 0, 12),
         Refusal::NotConverged => told(report, 0, 0, 13),
         Refusal::SingularColumn(x) => told(report, x, 0, 14),
+        Refusal::TooManyHalvings(x) => told(report, x, 0, 17),
     }
 }
 

@@ -38,6 +38,7 @@ bytes = (2 ∷ []) ++ one ++ one ++ zero ++ one ++ (0 ∷ 1 ∷ []) ++ three ++ 
 --     0 no 16 45 0     with code 6 and no direction
 --     0 no 16 45 0     with exponent 1 of one
 --     1 no 6 0 0       with an infinity in the first entry
+--     1 no 17 80 0     with 2^80 in the first entry and the task expm
 unfoldable pub sheet-table : List Line
 sheet-table =
     (49 ∷ 32 ∷ 111 ∷ 107 ∷ 32 ∷ 48 ∷ 32 ∷ 51 ∷ 102 ∷ 102 ∷ 48 ∷ 48 ∷ 48 ∷ 48 ∷ 48 ∷ 48 ∷ 48 ∷ 48 ∷ 48 ∷ 48 ∷ 48 ∷ 48 ∷ 48 ∷ 32 ∷ 52 ∷ 48 ∷ 48 ∷ 56 ∷ 48 ∷ 48 ∷ 48 ∷ 48 ∷ 48 ∷ 48 ∷ 48 ∷ 48 ∷ 48 ∷ 48 ∷ 48 ∷ 48 ∷ 32 ∷ 48 ∷ 48 ∷ 48 ∷ 48 ∷ 48 ∷ 48 ∷ 48 ∷ 48 ∷ 48 ∷ 48 ∷ 48 ∷ 48 ∷ 48 ∷ 48 ∷ 48 ∷ 48 ∷ 32 ∷ 51 ∷ 102 ∷ 102 ∷ 48 ∷ 48 ∷ 48 ∷ 48 ∷ 48 ∷ 48 ∷ 48 ∷ 48 ∷ 48 ∷ 48 ∷ 48 ∷ 48 ∷ 48 ∷ 10 ∷ [], sheetLines binary64 bytes)
@@ -51,6 +52,7 @@ sheet-table =
     ∷ (48 ∷ 32 ∷ 110 ∷ 111 ∷ 32 ∷ 49 ∷ 54 ∷ 32 ∷ 52 ∷ 53 ∷ 32 ∷ 48 ∷ 10 ∷ [], sheetLines binary64 (set bytes 44 6))
     ∷ (48 ∷ 32 ∷ 110 ∷ 111 ∷ 32 ∷ 49 ∷ 54 ∷ 32 ∷ 52 ∷ 53 ∷ 32 ∷ 48 ∷ 10 ∷ [], sheetLines binary64 (set bytes 45 1))
     ∷ (49 ∷ 32 ∷ 110 ∷ 111 ∷ 32 ∷ 54 ∷ 32 ∷ 48 ∷ 32 ∷ 48 ∷ 10 ∷ [], sheetLines binary64 (set bytes 8 127))
+    ∷ (49 ∷ 32 ∷ 110 ∷ 111 ∷ 32 ∷ 49 ∷ 55 ∷ 32 ∷ 56 ∷ 48 ∷ 32 ∷ 48 ∷ 10 ∷ [], sheetLines binary64 (set (set bytes 8 68) 44 0))
     ∷ []
 
 pub sheets-hold : hold sheet-table ≡ true

@@ -22,9 +22,9 @@ expm-table =
       1 ∷ 2 ∷ 0x416cf50e ∷ 0x4082169e ∷ 0x3eb0eb8e ∷ 0x40d5bcd5 ∷ [],
       shown (bits binary32) (expm binary32 2 2 (numbers binary32 (0x402c28f6 ∷ 0x3ecccccd ∷ 0x3d0b4396 ∷ 0x3ff1eb85 ∷ [])) 4 8192),
     )
-    -- as many halvings as there can be: 2^-128 is subnormal
+    -- as many halvings as there can be are refused
     ∷ (
-      1 ∷ 128 ∷ 0x00000000 ∷ 0x00000000 ∷ 0x00000000 ∷ 0x3f800000 ∷ [],
+      0 ∷ 17 ∷ 128 ∷ 0 ∷ [],
       shown (bits binary32) (expm binary32 2 2 (numbers binary32 (0xff400000 ∷ 0x00000000 ∷ 0x00000000 ∷ 0xc0400001 ∷ [])) 4 8192),
     )
     -- a norm past the largest number

@@ -43,10 +43,10 @@ table =
       0x00000000 ∷ 0x80000000 ∷ 0x00000001 ∷ 0x007fffff ∷ 0x00800000 ∷ 0xff7fffff ∷ 0x7f800000 ∷ 0xff800000 ∷ 0x7fc00000 ∷ 0x7fc00000 ∷ 0x7fc00000 ∷ [],
       bits binary32 (numbers binary32 (0x00000000 ∷ 0x80000000 ∷ 0x00000001 ∷ 0x007fffff ∷ 0x00800000 ∷ 0xff7fffff ∷ 0x7f800000 ∷ 0xff800000 ∷ 0x7fc00000 ∷ 0x7f800001 ∷ 0xffffffff ∷ [])),
     )
-    -- 2^-128, which the most halvings scale by, 2^-149, 2^127
+    -- 2^-64, which the most halvings scale by, 2^-149, 2^127
     ∷ (
-      0x00200000 ∷ 0x00000001 ∷ 0x7f000000 ∷ [],
-      bits binary32 (inversePowerOfTwo 128 ∷ inversePowerOfTwo 149 ∷ powerOfTwo 127 ∷ []),
+      0x1f800000 ∷ 0x00000001 ∷ 0x7f000000 ∷ [],
+      bits binary32 (inversePowerOfTwo 64 ∷ inversePowerOfTwo 149 ∷ powerOfTwo 127 ∷ []),
     )
     -- the machine step, the tolerance of a root, frechet_logm's step, 0.1
     ∷ (

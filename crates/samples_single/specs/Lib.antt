@@ -1,5 +1,6 @@
 pub mod Starred
 pub mod Floats
+pub mod Halvings
 pub mod Exponentials
 pub mod Roots
 pub mod Powers

@@ -1,15 +1,12 @@
--- No task has more than 1,024 halvings. Assumes nothing.
-use Prim.Native.Nat.{ℕ, suc, _+_, _≤_}
-use native.Mathlib.Nat.{le-trans}
+-- No task has more than 64 halvings. Assumes nothing.
+use Prim.Native.Nat.{ℕ, _+_}
 use mathlib.Core.Path.{_≡_, sym, subst}
 use mathlib.Core.Bool.{Bool, true, false, cond}
 use mathlib.Core.List.{List}
 use lib.IntN.{ℤ, pos, negsuc}
-use lib.Dec.{T, lit≤, eqb}
-use lib.Ieee.{Float, Format, binary32, binary64, emax, fits, add}
-use lib.Ieee.Fits.{add-fits}
-use lib.Ieee.Scale.{finite}
-use Rattle.arithmetic_floats.specs.Float.{halvings, integerOf, one}
+use lib.Dec.{lit≤, eqb}
+use lib.Ieee.{Float, Format, binary64, add}
+use Rattle.arithmetic_floats.specs.Float.{integerOf, one}
 use Rattle.arithmetic_matrices.specs.Product.{timesM}
 use Rattle.arithmetic_matrices.specs.Norm.{norm1}
 use Rattle.arithmetic_questions.specs.Result.{Result, refused, done, _>>=_, outcome}
@@ -17,8 +14,6 @@ use Rattle.arithmetic_questions.specs.Questions.{Call, Profile, asked, answer}
 use Rattle.arithmetic_questions.specs.Answers.{reported}
 use Rattle.arithmetic_questions.specs.Outputs.{Both}
 use Rattle.arithmetic_questions.specs.declared.answer.Outcome.{Outcome}
-use Rattle.arithmetic_floats.proofs.Least.{halvings-le}
-use Rattle.arithmetic_matrices.proofs.NormLaws.{norm-fits}
 use Rattle.functions_definitions.specs.Roots.{squareRoot}
 use Rattle.functions_definitions.specs.Logarithm.{logarithm}
 use Rattle.functions_definitions.specs.Powers.{halvingsFor, expM, wholePower, fractionalPower, isWhole, powerM}
@@ -26,23 +21,19 @@ use Rattle.functions_definitions.specs.Trigonometric.{trigonometricHalvings, co
 use Rattle.functions_definitions.specs.Derivatives.{blockQuarters, frechetExpM, secondLogarithm, frechetLogM, rootDerivative, frechetSqrtM, unitDirection, conditioned, condExpM}
 use Rattle.functions_definitions.specs.Exponential.{block}
 use Rattle.functions_definitions.specs.Calls.{expm, logm, sqrtm, powm, cosm, sinm, frechetExpm, frechetLogm, frechetSqrtm, condExpm}
+use Rattle.functions_definitions.proofs.HalvingLaws.{Limited, halvings-limited}
 use Rattle.sheet_encoding.specs.Kernels.{Few}
 use Rattle.sheet.specs.Tasks.{valueFor, derivativeFor}
 
 -- ---- halvings that a norm sets
 
--- no format has more
-few-format : (f : Format) → suc (emax f) ≤ 1024
-few-format binary32 = lit≤ tt
-few-format binary64 = lit≤ tt
-
-few-halvings : {A : Type 0} (f : Format) (x : Float) (g : ℕ → A) → T (fits f x) → Few (halvingsFor x >>= λ s. done s (g s))
-unfolding halvingsFor _>>=_
-few-halvings {A} f x g h = go (finite x)
+few-halvings : {A : Type 0} (x : Float) (g : ℕ → A) → Few (halvingsFor x >>= λ s. done s (g s))
+unfolding _>>=_
+few-halvings {A} x g = go (halvingsFor x) (halvings-limited x)
   where
-    go : (b : Bool) → Few {A = A} (cond b (done 0 (halvings x)) (refused 12 0 0) >>= λ s. done s (g s))
-    go true = le-trans (halvings-le f x h) (few-format f)
-    go false = tt
+    go : (q : Result ℕ) → Limited q → Few {A = A} (q >>= λ s. done s (g s))
+    go (refused k i j) h = tt
+    go (done t s) h = h
 
 -- ---- one step after the other
 
@@ -63,15 +54,15 @@ few-answer p c r h = few-bind (asked p c) (λ _. r) (λ _. h)
 
 few-expM : (f : Format) (n : ℕ) (a : List Float) → Few (expM f n a)
 unfolding expM
-few-expM f n a = few-halvings f (norm1 f n a) _ (norm-fits f n a)
+few-expM f n a = few-halvings (norm1 f n a) _
 
 few-cosM : (f : Format) (n : ℕ) (a : List Float) → Few (cosM f n a)
 unfolding cosM trigonometricHalvings
-few-cosM f n a = few-halvings f (add f (norm1 f n a) one) _ (add-fits f (norm1 f n a) one)
+few-cosM f n a = few-halvings (add f (norm1 f n a) one) _
 
 few-sinM : (f : Format) (n : ℕ) (a : List Float) → Few (sinM f n a)
 unfolding sinM trigonometricHalvings
-few-sinM f n a = few-halvings f (add f (norm1 f n a) one) _ (add-fits f (norm1 f n a) one)
+few-sinM f n a = few-halvings (add f (norm1 f n a) one) _
 
 few-log : (f : Format) (n : ℕ) (a : List Float) → Few (logarithm f n a)
 unfolding logarithm

@@ -11,10 +11,10 @@ use Rattle.sheet_encoding.specs.declared.parse.Read.{Read}
 use Rattle.sheet_encoding.specs.declared.parse.Read.the-variants.{Value, No}
 use Rattle.sheet_encoding.specs.Limits.{taskLimit, lineLimit, outputLimit}
 
--- halvings are at most 1,024, so that a line has room for them
+-- halvings are at most 64, so that a line has room for them
 abbrev pub Few : {A : Type 0} → Result A → Type 0
 Few (refused k x y) = Unit {0}
-Few (done s a) = s ≤ 1024
+Few (done s a) = s ≤ 64
 
 -- the value that was read, and 0 for a refusal
 abbrev pub valueOf : Read → ℕ

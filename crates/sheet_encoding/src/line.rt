@@ -41,9 +41,9 @@ fn put_refused(out: &mut [u8], at: usize, task: usize, code: Code) -> usize
 
 // What stands before the numbers of a task that is done.
 fn put_head(out: &mut [u8], at: usize, task: usize, halvings: usize) -> usize
-    requires { ⌜ (at + 44 ≤ length (now out)) × (task < 100) × (halvings < 10000) ⌝ }
+    requires { ⌜ (at + 44 ≤ length (now out)) × (task < 100) × (halvings < 100) ⌝ }
     ensures { λ r. ⌜ Wrote (now (out .entry)) at (doneHead task halvings) (now (out .exit)) r ⌝ }
-    ensures { λ r. ⌜ r ≤ at + 10 ⌝ }
+    ensures { λ r. ⌜ r ≤ at + 8 ⌝ }
 {
     let e = put_decimal(out, at, task);
     let f = put_word(out, e, b"ok");
@@ -59,7 +59,7 @@ fn put_done(
     first: &[f64],
     second: &[f64],
 ) -> usize
-    requires { ⌜ (at + lineLimit ≤ length (now out)) × (task < 100) × (halvings < 10000) × (length (now first) + length (now second) ≤ 128) ⌝ }
+    requires { ⌜ (at + lineLimit ≤ length (now out)) × (task < 100) × (halvings < 100) × (length (now first) + length (now second) ≤ 128) ⌝ }
     ensures { λ r. ⌜ Lined (now (out .entry)) at (doneLine binary64 task halvings (now (first .entry) ++ now (second .entry))) (now (out .exit)) r ⌝ }
 {
     let e = put_head(out, at, task, halvings);
@@ -98,6 +98,7 @@ fn code_of(why: Refusal) -> Code
         Refusal::NormNotFinite => coded(12, 0, 0),
         Refusal::NotConverged => coded(13, 0, 0),
         Refusal::SingularColumn(x) => coded(14, x, 0),
+        Refusal::TooManyHalvings(x) => coded(17, x, 0),
     }
 }
 

@@ -35,7 +35,7 @@ fn numbered(number: u64, first: usize, second: usize) -> Report {
     }
 }
 
-// A refusal by its number in document 01.
+// A refusal by its number in documents 01 and 02.
 fn refusal_report(why: Refusal) -> Report {
     match why {
         Refusal::EmptyMatrix => numbered(1, 0, 0),
@@ -52,6 +52,7 @@ fn refusal_report(why: Refusal) -> Report {
         Refusal::NormNotFinite => numbered(12, 0, 0),
         Refusal::NotConverged => numbered(13, 0, 0),
         Refusal::SingularColumn(k) => numbered(14, k, 0),
+        Refusal::TooManyHalvings(s) => numbered(17, s, 0),
     }
 }
 
@@ -147,13 +148,9 @@ fn same_outputs(s: &[u8], at: usize, x: &[f32], y: &[f32], pivots: &[usize]) -> 
     third.same && third.next == s.len()
 }
 
-// How many numbers of the workspace a call clears that ends with this number: all 8,192 where it is done or refused by 12, 13 or 14.
+// How many numbers of the workspace a call clears that ends with this number: all 8,192 where it is done or refused by 12 or above.
 fn cleared_after(number: u64) -> usize {
-    if number == 0 || 12 <= number && number <= 14 {
-        8192
-    } else {
-        0
-    }
+    if number == 0 || 12 <= number { 8192 } else { 0 }
 }
 
 // Whether the recorded outcome s is this one, the workspace w is left as it says, and x, y and the pivots are what was recorded or, after a

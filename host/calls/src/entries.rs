@@ -53,6 +53,7 @@ impl Port for f32 {
 }
 
 /// The exported calls of one width, whose names end with the suffix.
+#[cfg(any(entries, entries32))]
 macro_rules! linked {
     ($module:ident, $t:ident, $suffix:literal) => {
         #[rustfmt::skip]

@@ -114,10 +114,13 @@ fn wrong_numbers<T: Width>(tries: &Tries<T>) {
     assert!(call.function == Sinm && call.rows >= 3);
 }
 
+/// The refusals that calls meet; 15 and 16 are a sheet's.
+const REFUSALS: [usize; 15] = [1, 2, 3, 4, 5, 6, 7, 8, 9, 10, 11, 12, 13, 14, 17];
+
 /// Halvings and details that are not the right ones, and numbers of other refusals. At 8 and 10 to 13 both details are 0.
 fn wrong_reports<T: Width>(tries: &Tries<T>) {
     for place in 0..2 {
-        for number in 0..=14 {
+        for number in [0].into_iter().chain(REFUSALS) {
             let (_, fault) = tries.found(|_, _, told| {
                 if told.number == number {
                     told.report[place] += 1
@@ -126,7 +129,7 @@ fn wrong_reports<T: Width>(tries: &Tries<T>) {
             assert!(fault.contains(&format!("number: {number},")), "{fault}");
         }
     }
-    for number in 1..=14 {
+    for number in REFUSALS {
         let (_, fault) = tries.found(|_, _, told| {
             if told.number == number {
                 told.number = number % 11 + 1
@@ -214,13 +217,15 @@ fn outside_the_compared_domain<T: Width>(tries: &Tries<T>) {
         Outcome::Done(done) => done.near,
         outcome => matches!(outcome, Outcome::Parted),
     };
-    let halving = |call: &Call<T>| matches!(call.function, Expm | Cosm | Sinm | FrechetExpm | CondExpm);
-    let (call, _) = tries.found(|call, _, told| {
-        if halving(call) && near(call) {
-            told.number = 13
-        }
-    });
-    assert!(near(call));
+    let halving = |call: &Call<T>| call.function.halves() && call.function != Powm;
+    for number in [13, 17] {
+        let (call, _) = tries.found(|call, _, told| {
+            if halving(call) && near(call) {
+                told.number = number
+            }
+        });
+        assert!(near(call));
+    }
     let change = |call: &Call<T>, lent: &mut Lent<T>, _: &mut Told| {
         if halving(call) && near(call) {
             flip::<T>(&mut lent.room, 0, 0)

@@ -46,6 +46,13 @@ fn zero() -> Sheet {
     Sheet { order: 4, matrix: vec![0.0; 16], directions: vec![], exponents: vec![-1.0, 0.0], tasks }
 }
 
+/// A norm above 2^64, and a logarithm that is as large: the functions that halve are refused 17, the square root is answered.
+fn too_many_halvings() -> Sheet {
+    let tasks = tasks(&[(0, 0), (2, 0), (3, 0), (4, 0), (5, 0), (6, 0), (9, 0)]);
+    let (matrix, direction) = (vec![1.0, 1e25, 0.0, 1.0], vec![1.0, 0.0, 0.0, 1.0]);
+    Sheet { order: 2, matrix, directions: vec![direction], exponents: vec![0.5], tasks }
+}
+
 /// The longest sheet, 4,708 bytes, with the longest line for each task.
 fn longest() -> Sheet {
     let entry = |i: usize, j: usize| if i == j { 9.0 + i as f64 } else { 1.0 / (1 + i + j) as f64 };
@@ -69,6 +76,7 @@ pub fn samples() -> Vec<(&'static str, Vec<u8>)> {
         ("order_1", order_1().bytes()),
         ("roots", roots().bytes()),
         ("zero", zero().bytes()),
+        ("too_many_halvings", too_many_halvings().bytes()),
         ("longest", longest().bytes()),
         ("cut", cut),
         ("bad_code", bad_code),

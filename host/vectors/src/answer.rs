@@ -1,7 +1,9 @@
-//! The answer of a call: document 01's questions, and then the source.
+//! The answer of a call: document 01's questions and question 17 of document 02's #102, and then the source.
 
 use crate::call::{Call, Done, Function::*, Outcome, Refusal};
-use crate::norms::{block, even_direction, frobenius_norm, halvings, near_power_of_two, one_norm, source_halvings};
+use crate::norms::{
+    MOST_HALVINGS, block, even_direction, frobenius_norm, halvings, near_power_of_two, one_norm, source_halvings,
+};
 use crate::questions::asked;
 use crate::width::Width;
 use oracle::{Lu, LuError, MatFunError};
@@ -30,13 +32,16 @@ fn plain<T>(given: Given<T>) -> Outcome<T> {
     }
 }
 
-/// A function whose halvings are set by this norm, or by the norm + 1 for cosine and sine. Question 12 is document 01's own: the source
-/// would not end.
+/// A function whose halvings are set by this norm, or by the norm + 1 for cosine and sine. The source does not ask questions 12 and 17, and at 12 it would
+/// not end. Question 17 is asked of document 01's count, so its answer is known where the source counts otherwise, too.
 fn halved<T: Width>(norm: T, run: impl Fn() -> Given<T>) -> Outcome<T> {
     if !norm.is_finite() {
         return Outcome::Refused(Refusal(12, 0, 0));
     }
     let s = halvings(norm);
+    if s > MOST_HALVINGS {
+        return Outcome::Refused(Refusal(17, s, 0));
+    }
     if source_halvings(norm) != s {
         return Outcome::Parted;
     }
@@ -51,7 +56,8 @@ fn power<T: Width>(n: usize, a: &[T], p: T) -> Outcome<T> {
     if (p.wide() - p.wide().round()).abs() < 1e-14 {
         return plain(run());
     }
-    // A fractional power's exponential halves its argument, which is the exponent times the logarithm. The answer reports 0.
+    // A fractional power's exponential halves its argument, which is the exponent times the logarithm. The answer reports 0, refusal 17
+    // the halvings.
     match oracle::logm(n, n, a) {
         Err(_) => plain(run()),
         Ok(log) => {

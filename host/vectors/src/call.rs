@@ -68,6 +68,11 @@ impl Function {
         matches!(self, FrechetExpm | FrechetLogm | FrechetSqrtm)
     }
 
+    /// The functions that halve a matrix, powm where its exponent is a fraction.
+    pub fn halves(self) -> bool {
+        matches!(self, Expm | Powm | Cosm | Sinm | FrechetExpm | CondExpm)
+    }
+
     /// A direction, a right-hand side or a second matrix stands beside the matrix.
     pub fn has_companion(self) -> bool {
         self.directed() || self == LuSolve || self.kronecker()
@@ -149,7 +154,7 @@ impl<T: Width> Call<T> {
     }
 }
 
-/// A refusal's number in document 01, and its two details.
+/// A refusal's number in document 01, or 17 of document 02's #102, and its two details.
 #[derive(Clone, Copy, Debug, PartialEq, Eq)]
 pub struct Refusal(pub usize, pub usize, pub usize);
 

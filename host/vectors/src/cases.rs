@@ -1,6 +1,7 @@
 //! Calls to try: matrices of several kinds, and now and then a call with something wrong.
 
 use crate::call::{Call, Function, Function::*};
+use crate::norms::MOST_HALVINGS;
 use crate::questions::asked;
 use crate::random::Random;
 use crate::width::Width;
@@ -31,11 +32,12 @@ pub enum Kind {
     AtPower,
     Overflowing,
     Nonfinite,
+    AtLimit,
 }
 
 use Kind::*;
 
-/// Every kind with finite entries.
+/// Every kind with finite entries, but for the one that is made for functions that halve.
 const FINITE: [Kind; 22] = [
     SmallIntegers,
     Normal,
@@ -67,6 +69,9 @@ const ROOTED: [Kind; 4] = [NearIdentity, Definite, PositiveUpper, Shear];
 /// Kinds of entries for matrices that need not be square.
 const ENTRIES: [Kind; 9] = [SmallIntegers, Normal, Scaled, PowersOfTwo, Zeros, Ties, Huge, Tiny, AnyFinite];
 
+/// The exponent of the largest norm that question 17 passes, 2^64.
+const LIMIT: i32 = MOST_HALVINGS as i32;
+
 pub const NOT_FINITE: [f64; 3] = [f64::NAN, f64::INFINITY, f64::NEG_INFINITY];
 
 /// A NaN or an infinity.
@@ -97,6 +102,7 @@ fn entries<T: Width>(kind: Kind, count: usize, r: &mut Random) -> Vec<T> {
         Huge => power_within(T::EDGES.huge, r),
         Tiny => power_within(T::EDGES.tiny[0], r) * power_within(T::EDGES.tiny[1], r),
         Ties => f64::from(r.between(1, 9)),
+        AtLimit => r.power_of_two(LIMIT - 6, LIMIT + 2),
         _ => 1.0,
     };
     let mut numbers = Vec::with_capacity(count);
@@ -116,6 +122,46 @@ fn entries<T: Width>(kind: Kind, count: usize, r: &mut Random) -> Vec<T> {
         });
     }
     numbers
+}
+
+/// A diagonal with this 1-norm.
+fn diagonal<T: Width>(n: usize, norm: T, r: &mut Random) -> Vec<T> {
+    let mut a = vec![T::zero(); n * n];
+    let at = r.below(n);
+    for i in 0..n {
+        for j in 0..n {
+            let inside = if i == at { norm } else { norm * T::of(r.unit()) };
+            a[i * n + j] = if i == j { signed(inside, r) } else { T::zero() };
+        }
+    }
+    a
+}
+
+/// The identity and one entry above the diagonal: its logarithm is that entry.
+pub fn shear<T: Width>(n: usize, entry: T, r: &mut Random) -> Vec<T> {
+    let mut a = vec![T::zero(); n * n];
+    for i in 0..n {
+        a[i * n + i] = T::one();
+    }
+    if n > 1 {
+        let i = r.below(n - 1);
+        let j = i + 1 + r.below(n - 1 - i);
+        a[i * n + j] = entry;
+    }
+    a
+}
+
+/// The largest norm that question 17 passes or one of its two neighbours, or one from 2^60 to 2^68.
+fn norm_at_limit<T: Width>(r: &mut Random) -> T {
+    let power = T::power(LIMIT);
+    let other = T::of((1.0 + r.unit()) * r.power_of_two(LIMIT - 4, LIMIT + 3));
+    r.pick(&[power, power.next_up(), power.next_down(), other, other, other])
+}
+
+/// A shear whose square root halves such a norm.
+pub fn shear_at_limit<T: Width>(n: usize, r: &mut Random) -> Vec<T> {
+    let entry = T::of(2.0 * r.sign()) * norm_at_limit(r);
+    shear(n, entry, r)
 }
 
 /// Rows in another order.
@@ -205,18 +251,10 @@ pub fn square<T: Width>(kind: Kind, n: usize, r: &mut Random) -> Vec<T> {
             }
         }
         Shear => {
-            // The identity and one entry above the diagonal, up to the largest: its logarithm is that entry, and may overflow times p.
+            // With an entry up to the largest number: the logarithm may overflow times p.
             let power = if r.once_in(4) { power_within(T::EDGES.steep, r) } else { r.power_of_two(-20, 60) };
             let entry = T::of(r.sign() * power * r.pick(&[1.0, 1.0, 1.5, 1.25]));
-            a = vec![zero; n * n];
-            for i in 0..n {
-                a[i * n + i] = one;
-            }
-            if n > 1 {
-                let i = r.below(n - 1);
-                let j = i + 1 + r.below(n - 1 - i);
-                a[i * n + j] = entry;
-            }
+            a = shear(n, entry, r);
         }
         Rotation => {
             // Pairs of rows turn by an angle; a last row alone is 1.
@@ -236,14 +274,12 @@ pub fn square<T: Width>(kind: Kind, n: usize, r: &mut Random) -> Vec<T> {
             let power = T::of(if r.once_in(4) { r.power_of_two(0, T::LARGEST) } else { r.power_of_two(0, 40) });
             let mut choices = vec![power, power.next_up(), power.next_down(), power - one];
             choices.extend(T::EDGES.beyond.iter().map(|factor| power * T::of(*factor)));
-            let largest = r.pick(&choices);
-            let at = r.below(n);
-            for i in 0..n {
-                for j in 0..n {
-                    let inside = if i == at { largest } else { largest * T::of(r.unit()) };
-                    a[i * n + j] = if i == j { signed(inside, r) } else { zero };
-                }
-            }
+            let norm = r.pick(&choices);
+            a = diagonal(n, norm, r);
+        }
+        AtLimit if r.once_in(2) => {
+            let norm = norm_at_limit(r);
+            a = diagonal(n, norm, r);
         }
         Special => {
             // A multiple of the identity, rows in another order or not, or of the matrix of ones above the diagonal.
@@ -266,6 +302,7 @@ pub fn square<T: Width>(kind: Kind, n: usize, r: &mut Random) -> Vec<T> {
 /// A matrix for a function.
 pub fn matrix_for<T: Width>(function: Function, n: usize, r: &mut Random) -> Vec<T> {
     let kind = match function {
+        Expm | Cosm | Sinm | FrechetExpm | CondExpm if r.once_in(16) => AtLimit,
         Logm | Sqrtm | Powm | FrechetLogm | FrechetSqrtm if r.once_in(2) => r.pick(&ROOTED),
         Expm | Cosm | Sinm | FrechetExpm | CondExpm if r.once_in(2) => r.pick(&[Normal, Scaled, Symmetric]),
         _ if !function.coded() && r.once_in(6) => Nonfinite,
@@ -378,8 +415,18 @@ fn sound<T: Width>(function: Function, n: usize, r: &mut Random) -> Call<T> {
                 (c.companion_rows, c.companion_columns) = (n, n);
                 c.companion = direction(n, r);
             }
+            if function == FrechetExpm && r.once_in(16) {
+                c.companion = square(AtLimit, n, r);
+            }
             if function == Powm {
                 c.exponent = exponent(r);
+            }
+            if function == Powm && r.once_in(16) {
+                // The norm that is halved is not finite, or lies at question 17's limit.
+                (c.matrix, c.exponent) = match r.below(4) {
+                    0 => (shear(n, T::largest(), r), T::of(2.5)),
+                    _ => (shear_at_limit(n, r), T::of(0.5)),
+                };
             }
         }
     }

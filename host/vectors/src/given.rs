@@ -1,6 +1,7 @@
 //! Calls that are written out, beside the random ones.
 
 use crate::call::{Call, Function, Function::*};
+use crate::norms::MOST_HALVINGS;
 use crate::width::Width;
 
 /// Square matrices: an order and its numbers, row by row.
@@ -46,11 +47,36 @@ fn counting<T: Width>(n: usize) -> Vec<T> {
     (1..=n * n).map(|k| T::of(k as f64)).collect()
 }
 
+/// The matrix with these entries on the diagonal and next above it.
+fn banded<T: Width>(n: usize, diagonal: T, above: T) -> Vec<T> {
+    let entry = |i: usize, j: usize| match j.wrapping_sub(i) {
+        0 => diagonal,
+        1 => above,
+        _ => T::zero(),
+    };
+    (0..n * n).map(|k| entry(k / n, k % n)).collect()
+}
+
 /// A matrix and a direction at which a number of frechet_expm's run on the block is not finite, though the exponential of the matrix is: the first output
-/// is not finite.
-fn directed<T: Width>((x, y): (f64, f64)) -> Call<T> {
-    let (matrix, direction) = (rounded(&[0.0, x, 0.0, 0.0]), rounded(&[0.0, 0.0, y, 0.0]));
-    Call::coded(FrechetExpm, 2, &matrix, &direction, T::zero())
+/// is not finite, where the halvings are not refused.
+fn directed<T: Width>((n, diagonal, above, corner): (usize, f64, f64, f64)) -> Call<T> {
+    let mut direction = vec![T::zero(); n * n];
+    direction[n * (n - 1)] = T::of(corner);
+    Call::coded(FrechetExpm, n, &banded(n, T::of(diagonal), T::of(above)), &direction, T::zero())
+}
+
+/// The square root of [[1, x], [0, 1]], whose exponential halves the norm x / 2.
+fn root_of_shear<T: Width>(x: T) -> Call<T> {
+    Call::coded(Powm, 2, &banded(2, T::one(), x), &[], T::of(0.5))
+}
+
+/// The norm at question 17's limit, and its two neighbours. The 1 that cosm and sinm add, and what the directions add, is rounded away.
+fn at_limit<T: Width>(function: Function) -> [Call<T>; 3] {
+    let limit = T::power(MOST_HALVINGS as i32);
+    [limit.next_down(), limit, limit.next_up()].map(|norm| match function {
+        Powm => root_of_shear(T::of(2.0) * norm),
+        _ => Call::coded(function, 2, &banded(2, T::zero(), norm), &counting(2), T::zero()),
+    })
 }
 
 /// The calls of a function that has a code.
@@ -63,6 +89,12 @@ pub fn given<T: Width>(function: Function) -> Vec<Call<T>> {
         } else {
             calls.push(Call::coded(function, n, &matrix, &counting(n), T::zero()));
         }
+    }
+    if function.halves() {
+        calls.extend(at_limit(function));
+    }
+    if function == Powm {
+        calls.push(root_of_shear(T::of(1e25)));
     }
     if function == FrechetExpm {
         calls.extend(T::EDGES.directed.map(directed));

@@ -1,5 +1,5 @@
-//! Calls of document 01's functions with their answers, at both widths of numbers. The source computes the numbers; document 01's rules give the refusals that the
-//! source does not have.
+//! Calls of document 01's functions with their answers, at both widths of numbers. The source computes the numbers; the rules of documents 01 and 02 give the
+//! refusals that the source does not have.
 
 pub mod answer;
 pub mod call;

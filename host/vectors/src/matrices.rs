@@ -1,7 +1,7 @@
 //! Matrices of more kinds: badly conditioned, with rows of different sizes, with eigenvalues below 0, next to overflow.
 
 use crate::call::FUNCTIONS;
-use crate::cases::{Kind, NOT_FINITE, matrix_for, square};
+use crate::cases::{Kind, NOT_FINITE, matrix_for, shear, shear_at_limit, square};
 use crate::random::Random;
 use crate::width::Width;
 
@@ -46,13 +46,10 @@ fn negative<T: Width>(n: usize, r: &mut Random) -> Vec<T> {
     a
 }
 
-/// The identity with one entry near the largest number above the diagonal: its logarithm is that entry, which a fractional power may take past the largest.
+/// A shear whose logarithm, an entry near the largest number, a fractional power may take past the largest.
 fn steep<T: Width>(n: usize, r: &mut Random) -> Vec<T> {
-    let mut a: Vec<T> = (0..n * n).map(|k| if k / n == k % n { T::one() } else { T::zero() }).collect();
-    if n > 1 {
-        a[n - 1] = T::of(r.sign() * (1.0 + r.unit())) * T::power(T::LARGEST - 1);
-    }
-    a
+    let entry = T::of(r.sign() * (1.0 + r.unit())) * T::power(T::LARGEST - 1);
+    shear(n, entry, r)
 }
 
 /// A matrix of any kind; one in 24 has an entry that is not finite.
@@ -64,6 +61,7 @@ pub fn matrix<T: Width>(n: usize, r: &mut Random) -> Vec<T> {
         6..=7 => square(r.pick(&[Kind::Zeros, Kind::SmallIntegers, Kind::Singular]), n, r),
         8..=9 => square(r.pick(&[Kind::Huge, Kind::Tiny, Kind::Overflowing]), n, r),
         10 => steep(n, r),
+        11 => shear_at_limit(n, r),
         // The kinds that suit a function, and now and then any kind.
         _ => matrix_for(FUNCTIONS[r.below(10)].0, n, r),
     };

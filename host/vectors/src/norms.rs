@@ -59,6 +59,9 @@ pub fn halvings<T: Width>(norm: T) -> usize {
     if bits << 12 == 0 { exponent } else { exponent + 1 }
 }
 
+/// The most halvings that a call may need; question 17 refuses more.
+pub const MOST_HALVINGS: usize = 64;
+
 /// The source's halvings: the ceiling of ln(norm) / ln 2, at least 0.
 pub fn source_halvings<T: Width>(norm: T) -> usize {
     (norm.logarithm() / T::of(2.0).logarithm()).wide().ceil().max(0.0) as usize

@@ -21,8 +21,9 @@ pub struct Edges {
     pub written_huge: f64,
     pub written_tiny: [f64; 2],
     pub written_one: f64,
-    /// An entry of the matrix and one of the direction: the exponential is finite, and frechet_expm's run is not.
-    pub directed: [(f64, f64); 2],
+    /// An order, the matrix's entries on the diagonal and next above it, and the direction's last entry in its first column: the exponential is finite, and
+    /// frechet_expm's run on the block would not be. The second and the third have more than 64 halvings.
+    pub directed: [(usize, f64, f64, f64); 3],
 }
 
 /// A width of numbers.
@@ -141,7 +142,7 @@ impl Width for f64 {
         written_huge: 1e200,
         written_tiny: [1e-200, 1e-220],
         written_one: 1.0000000001,
-        directed: [(1e200, 1e200), (1e100, 1e250)],
+        directed: [(8, 420.0, 1e16, 8e15), (2, 0.0, 1e200, 1e200), (2, 0.0, 1e100, 1e250)],
     };
     own!(f64, u64);
 }
@@ -180,7 +181,7 @@ impl Width for f32 {
         written_huge: 1e30,
         written_tiny: [1e-30, 1e-33],
         written_one: 1.0001,
-        directed: [(1e30, 1e30), (1e15, 1e35)],
+        directed: [(2, 0.0, 1e15, 1e15), (2, 0.0, 1e30, 1e30), (2, 0.0, 1e15, 1e35)],
     };
     own!(f32, u32);
 }

@@ -156,21 +156,24 @@ fn a_fractional_power_that_overflows() {
     assert!(matches!(answer(&call), Outcome::Refused(Refusal(12, 0, 0))));
 }
 
-/// The proviso of demand 3 is needed: the exponential of the matrix is finite, and frechet_expm's first output is not.
-fn spoils_the_first_output<T: Width>() {
-    let spoiled = |call: &Call<T>| match answer(call) {
-        Outcome::Done(done) => done.outputs[0].iter().any(|x| x.is_nan()),
+/// The proviso of demand 3 is needed: the exponential of the matrix is finite, and frechet_expm's first output is not, at as many halvings. Two more
+/// such calls are refused.
+fn spoils_the_first_output<T: Width>(halvings: usize) {
+    let done = |call: &Call<T>, finite: bool| match answer(call) {
+        Outcome::Done(d) => d.halvings == halvings && d.outputs[0].iter().all(|x| x.is_finite()) == finite,
         _ => false,
     };
+    let alone = |call: &Call<T>| Call::coded(Function::Expm, call.rows, &call.matrix, &[], T::zero());
     let calls = given::<T>(Function::FrechetExpm);
-    let finite = |call: &Call<T>| oracle::expm(2, 2, &call.matrix).unwrap().iter().all(|x| x.is_finite());
-    assert_eq!(calls.iter().filter(|c| c.rows == 2 && spoiled(c) && finite(c)).count(), 2);
+    assert_eq!(calls.iter().filter(|c| done(c, false) && done(&alone(c), true)).count(), 1);
+    let last = calls.iter().rev().take(2);
+    assert!(last.map(answer).all(|outcome| matches!(outcome, Outcome::Refused(Refusal(17, _, 0)))));
 }
 
 #[test]
 fn a_direction_spoils_the_first_output() {
-    spoils_the_first_output::<f64>();
-    spoils_the_first_output::<f32>();
+    spoils_the_first_output::<f64>(54);
+    spoils_the_first_output::<f32>(50);
 }
 
 /// Powers that document 01's bench names: the zero matrix to the power -1 and to the power 0.

@@ -1,8 +1,5 @@
 -- `halvings_for` meets its contract. Assumes nothing.
-use mathlib.Core.Path.{sym, subst}
-use lib.Dec.{T}
-use lib.Ieee.{binary64}
-use Rattle.functions_definitions.proofs.HalvingLaws.{not-done, passed-finite, refused-report, passed-report, passed-few}
+use Rattle.functions_definitions.proofs.HalvingLaws.{passed-finite, norm-refused, halvings-refused, halvings-passed}
 use borrow.Author.Needs.{needs}
 use Rattle.functions_exponential.proofs.halvings.halvings_for.Statement.{statement}
 use Rattle.functions_exponential.proofs.halvings.halvings_for.Tie as tie
@@ -14,19 +11,24 @@ halvings-of-requires c κs =
 
 returns : tie.Need-returns
 returns c =
-    let (at-why, ask-norm, start) : tie.After-why × tie.After-ask-norm × tie.Start = search in
-    let x = start .args .norm in
-    let asked = ask-norm .ask-norm in
-    let why = at-why .why .given .1 in
-    (refused-report x (asked .result) _ (asked .ensures) why, λ s e. absurd (not-done (at-why .why .given .0 .0) s e))
+    let (why, ask-norm, s) : tie.After-why × tie.After-ask-norm × tie.Start = search in
+    norm-refused (s .args .norm) (ask-norm .ask-norm .result) (ask-norm .ask-norm .ensures) _ (why .why .given .1)
 
 returns-2 : tie.Need-returns-2
 returns-2 c =
-    let (halvings-of, enum-told, ask-norm, start) : tie.After-halvings-of × tie.After-enum-told × tie.After-ask-norm × tie.Start = search in
-    let x = start .args .norm in
-    let asked = ask-norm .ask-norm in
-    let told = enum-told .enum-told .given .1 in
-    (passed-report x (asked .result) _ (asked .ensures) told (halvings-of .halvings-of .ensures .0), λ s e. passed-few binary64 x s _ (subst T (sym (start .good .0 .1)) tt) (halvings-of .halvings-of .ensures .0) e)
+    let (why2, limit, count, told, norm, s) :
+    tie.After-why2 × tie.After-ask-halvings × tie.After-halvings-of × tie.After-enum-told × tie.After-ask-norm × tie.Start = search in
+    let q = norm .ask-norm in
+    let r = limit .ask-halvings in
+    halvings-refused (s .args .norm) (q .result) (q .ensures) (told .enum-told .given .1) _ (count .halvings-of .ensures .0) (r .result) (r .ensures) _ (why2 .why2 .given .1)
+
+returns-3 : tie.Need-returns-3
+returns-3 c =
+    let (told2, limit, count, told, norm, s) :
+    tie.After-enum-told2 × tie.After-ask-halvings × tie.After-halvings-of × tie.After-enum-told × tie.After-ask-norm × tie.Start = search in
+    let q = norm .ask-norm in
+    let r = limit .ask-halvings in
+    halvings-passed (s .args .norm) (q .result) (q .ensures) (told .enum-told .given .1) _ (count .halvings-of .ensures .0) (r .result) (r .ensures) (told2 .enum-told2 .given .1)
 
 pub halvings-for-spec : {M : Type 1} → statement M
 halvings-for-spec =
@@ -36,5 +38,9 @@ halvings-for-spec =
     (λ c. search needs)
     (λ c. search needs)
     halvings-of-requires
+    (λ c κs. search needs)
+    (λ c. search needs)
+    (λ c. search needs)
     returns
-    returns-2)
+    returns-2
+    returns-3)

@@ -1,13 +1,13 @@
 -- `expm_in` meets its contract. Assumes nothing.
-use mathlib.Core.Path.{ap, _∙_}
+use mathlib.Core.Path.{sym, ap, _∙_}
 use mathlib.Core.List.{[], _∷_}
-use native.Mathlib.Omega.{arith}
 use lib.Ieee.{binary32}
 use Rattle.arithmetic_questions.specs.Answers.{reported}
 use Rattle.arithmetic_matrices.specs.Norm.{norm1}
 use Rattle.arithmetic_matrices.specs.Workspace.{slot}
 use Rattle.functions_definitions.specs.Exponential.{exponential}
 use Rattle.functions_definitions.specs.Powers.{halvingsReport, expM}
+use Rattle.functions_definitions.proofs.HalvingLaws.{halvings-few}
 use Rattle.functions_exponential.proofs.ExponentialLaws.{halved-none, halved-done}
 use borrow.Author.Needs.{needs}
 use Rattle.functions_exponential32.proofs.expm.expm_in.Statement.{statement}
@@ -17,7 +17,7 @@ exponential-at-requires : tie.Need-exponential-at-requires
 exponential-at-requires c κs =
     let (outcome, halvings-for, s) : tie.After-outcome × tie.After-halvings-for × tie.Start = search in
     let h = halvings-for .halvings-for in
-    (s .pre, omega (arith, h .ensures .1 _ (ap reported (outcome .outcome .given .1))))
+    (s .pre, halvings-few _ _ (sym (h .ensures) ∙ ap reported (outcome .outcome .given .1)))
 
 returns : tie.Need-returns
 unfolding expM
@@ -26,7 +26,7 @@ returns c =
     tie.After-exponential-at × tie.After-outcome × tie.After-halvings-for × tie.After-norm-1 × tie.Start = search in
     let a = start .args in
     let x = slot (a .n) (a .w .now) 0 in
-    let H = call .halvings-for .ensures .0 ∙ ap halvingsReport (norm-1 .norm-1 .ensures) in
+    let H = call .halvings-for .ensures ∙ ap halvingsReport (norm-1 .norm-1 .ensures) in
     halved-done (0 ∷ 1 ∷ 2 ∷ 3 ∷ 4 ∷ 5 ∷ []) (a .n) (λ s. exponential binary32 (a .n) s x) (norm1 binary32 (a .n) x) (call .halvings-for .result) H (a .w .now) _ (run .exponential-at .last .0) (outcome .outcome .given .1) (run .exponential-at .ensures .result) (run .exponential-at .ensures .only)
 
 returns-2 : tie.Need-returns-2
@@ -35,7 +35,7 @@ returns-2 c =
     let (outcome2, call, norm-1, start) : tie.After-outcome2 × tie.After-halvings-for × tie.After-norm-1 × tie.Start = search in
     let a = start .args in
     let x = slot (a .n) (a .w .now) 0 in
-    let H = call .halvings-for .ensures .0 ∙ ap halvingsReport (norm-1 .norm-1 .ensures) in
+    let H = call .halvings-for .ensures ∙ ap halvingsReport (norm-1 .norm-1 .ensures) in
     halved-none (0 ∷ 1 ∷ 2 ∷ 3 ∷ 4 ∷ 5 ∷ []) (a .n) (λ s. exponential binary32 (a .n) s x) (norm1 binary32 (a .n) x) (call .halvings-for .result) H (a .w .now) _ (outcome2 .outcome2 .given .1)
 
 pub expm-in-spec : {M : Type 1} → statement M

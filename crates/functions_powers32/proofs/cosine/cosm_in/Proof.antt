@@ -1,5 +1,5 @@
 -- `cosm_in` meets its contract. Assumes nothing.
-use mathlib.Core.Path.{ap, _∙_}
+use mathlib.Core.Path.{sym, ap, _∙_}
 use mathlib.Core.List.{[], _∷_}
 use lib.Ieee.{binary32, add}
 use Rattle.arithmetic_questions.specs.Answers.{reported}
@@ -9,8 +9,8 @@ use Rattle.arithmetic_matrices.specs.Norm.{norm1}
 use Rattle.arithmetic_matrices.specs.Workspace.{slot}
 use Rattle.functions_definitions.specs.Powers.{halvingsReport}
 use Rattle.functions_definitions.specs.Trigonometric.{cosineAt, trigonometricHalvings, cosM}
+use Rattle.functions_definitions.proofs.HalvingLaws.{halvings-few}
 use Rattle.functions_exponential.proofs.ExponentialLaws.{halved-none, halved-done}
-use native.Mathlib.Omega.{arith}
 use borrow.Author.Needs.{needs}
 use Rattle.functions_powers32.proofs.cosine.cosm_in.Statement.{statement}
 use Rattle.functions_powers32.proofs.cosine.cosm_in.Tie as tie
@@ -18,7 +18,7 @@ use Rattle.functions_powers32.proofs.cosine.cosm_in.Tie as tie
 cosine-at-requires : tie.Need-cosine-at-requires
 cosine-at-requires c κs =
     let (halvings, call, s) : tie.After-halvings × tie.After-halvings-for × tie.Start = search in
-    (s .pre, omega (arith, call .halvings-for .ensures .1 _ (ap reported (halvings .halvings .given .1))))
+    (s .pre, halvings-few _ _ (sym (call .halvings-for .ensures) ∙ ap reported (halvings .halvings .given .1)))
 
 returns : tie.Need-returns
 unfolding cosM trigonometricHalvings
@@ -26,7 +26,7 @@ returns c =
     let (why, call, norm-1, s) : tie.After-why × tie.After-halvings-for × tie.After-norm-1 × tie.Start = search in
     let a = s .args in
     let x = slot (a .n) (a .w .now) 0 in
-    let H = call .halvings-for .ensures .0 ∙ (λ i. halvingsReport (add binary32 (norm-1 .norm-1 .ensures i) (one-bits binary32 i))) in
+    let H = call .halvings-for .ensures ∙ (λ i. halvingsReport (add binary32 (norm-1 .norm-1 .ensures i) (one-bits binary32 i))) in
     halved-none (0 ∷ 1 ∷ 2 ∷ 3 ∷ 4 ∷ []) (a .n) (λ s. cosineAt binary32 (a .n) s x) (add binary32 (norm1 binary32 (a .n) x) one) (call .halvings-for .result) H (a .w .now) _ (why .why .given .1)
 
 returns-2 : tie.Need-returns-2
@@ -35,7 +35,7 @@ returns-2 c =
     let (run, halvings, call, norm-1, s) : tie.After-cosine-at × tie.After-halvings × tie.After-halvings-for × tie.After-norm-1 × tie.Start = search in
     let a = s .args in
     let x = slot (a .n) (a .w .now) 0 in
-    let H = call .halvings-for .ensures .0 ∙ (λ i. halvingsReport (add binary32 (norm-1 .norm-1 .ensures i) (one-bits binary32 i))) in
+    let H = call .halvings-for .ensures ∙ (λ i. halvingsReport (add binary32 (norm-1 .norm-1 .ensures i) (one-bits binary32 i))) in
     halved-done (0 ∷ 1 ∷ 2 ∷ 3 ∷ 4 ∷ []) (a .n) (λ s. cosineAt binary32 (a .n) s x) (add binary32 (norm1 binary32 (a .n) x) one) (call .halvings-for .result) H (a .w .now) _ (run .cosine-at .last .0) (halvings .halvings .given .1) (run .cosine-at .ensures .result) (run .cosine-at .ensures .only)
 
 pub cosm-in-spec : {M : Type 1} → statement M

@@ -90,10 +90,18 @@ returns-14 c =
     let why8 : tie.After-why8 = search in
     coded-as (ap numbered (why8 .why8 .given .1)) (coded14 .coded14 .ensures)
 
+returns-15 : tie.Need-returns-15
+returns-15 c =
+    let coded15 : tie.After-coded15 = search in
+    let why9 : tie.After-why9 = search in
+    coded-as (ap numbered (why9 .why9 .given .1)) (coded15 .coded15 .ensures)
+
 pub code-of-spec : {M : Type 1} → statement M
 code-of-spec =
     tie.close
     (tie.spec
+    (λ c. search needs)
+    (λ c κs. search needs)
     (λ c. search needs)
     (λ c κs. search needs)
     (λ c. search needs)
@@ -135,4 +143,5 @@ code-of-spec =
     returns-11
     returns-12
     returns-13
-    returns-14)
+    returns-14
+    returns-15)

@@ -30,7 +30,7 @@ returns c =
     let v = put-word .put-word .ensures in
     let w = put-detail .put-detail .ensures in
     let a = s .args in
-    (wrote-more (wrote-more u (v .0)) (w .0), omega (arith, length-decimal-few 1 (a .task) (omega arith), length-decimal-few 3 (a .halvings) (omega arith), u .past, v .1, w .0 .past))
+    (wrote-more (wrote-more u (v .0)) (w .0), omega (arith, length-decimal-few 1 (a .task) (omega arith), length-decimal-few 1 (a .halvings) (omega arith), u .past, v .1, w .0 .past))
 
 pub put-head-spec : {M : Type 1} → statement M
 put-head-spec =
