@@ -6,7 +6,7 @@
 #include <stdint.h>
 
 /* The least length of output, and the length of the longest sheet that is accepted. */
-#define AXIS_OUTPUT_LENGTH 35000
+#define AXIS_OUTPUT_LENGTH 35500
 #define AXIS_SHEET_LENGTH 4708
 
 #ifdef __cplusplus
@@ -14,8 +14,8 @@ extern "C" {
 #endif
 
 /*
- * Runs a sheet and writes one line for each task, as document 01 says; a sheet that is refused gives one line. Reports the bytes written. Later bytes of
- * the output stay as they are, and no zero byte is added.
+ * Runs a sheet and writes one line for each task, as documents 01 and 02 say; a sheet that is refused gives one line. Reports the bytes written. Later
+ * bytes of the output stay as they are, and no zero byte is added.
  *
  * Where output_length is below AXIS_OUTPUT_LENGTH, 0 is reported, nothing is read and nothing is written; otherwise at least one line is written.
  *

@@ -5,3 +5,5 @@ pub use arithmetic_floats32::root::sqrt;
 pub use arithmetic_questions::answer::Answer;
 pub use arithmetic_questions::answer::Outcome;
 pub use arithmetic_questions::answer::Refusal;
+pub use arithmetic_questions::answer::Report;
+pub use arithmetic_questions::answer::smallest_bits;

@@ -9,7 +9,7 @@ use lib.Ieee.Positive.{num, den}
 use lib.Ieee.Scale.{finite}
 use lib.Dec.{T}
 
--- +0, 1 and a half
+-- +0, 1, a half and plus infinity
 abbrev pub +zero : Float
 +zero = fin false 0 (pos 0)
 
@@ -18,6 +18,9 @@ one = fin false 1 (pos 0)
 
 abbrev pub half : Float
 half = fin false 1 (negsuc 0)
+
+abbrev pub +infinity : Float
++infinity = inf false
 
 -- x is neither infinite nor NaN
 abbrev pub Finite : Float → Type 0
@@ -45,6 +48,10 @@ magnitude (fin s (suc m) e) = fin false (suc m) e
 -- b where a < b, and a otherwise
 unfoldable pub larger : Float → Float → Float
 larger a b = cond (lt a b) b a
+
+-- b where b < a, and a otherwise
+unfoldable pub smaller : Float → Float → Float
+smaller a b = cond (lt b a) b a
 
 -- ---- powers of two
 

@@ -7,7 +7,7 @@ ghost use lib.IntN.{pos};
 ghost use lib.Ieee.{binary64, ofInt, ofBits, toBits, toSigned};
 ghost use lib.Ieee.Scale.{finite};
 ghost use lib.Ieee.Positive.{num, den};
-ghost use Rattle.arithmetic_floats.specs.Float.{halvings, Least, powerOfTwo, inversePowerOfTwo, halfUp, roundAway, nearInteger, integerOf, magnitude as magnitudeOf, larger as largerOf};
+ghost use Rattle.arithmetic_floats.specs.Float.{halvings, Least, powerOfTwo, inversePowerOfTwo, halfUp, roundAway, nearInteger, integerOf, magnitude as magnitudeOf, larger as largerOf, smaller as smallerOf};
 
 // The magnitude of x. That of -0 is +0, and that of a NaN is a NaN.
 pub fn magnitude(x: f64) -> f64
@@ -21,6 +21,13 @@ pub fn larger(a: f64, b: f64) -> f64
     ensures { λ r. ⌜ r ≡ largerOf a b ⌝ }
 {
     if a < b { b } else { a }
+}
+
+// b where b < a, and a otherwise.
+pub fn smaller(a: f64, b: f64) -> f64
+    ensures { λ r. ⌜ r ≡ smallerOf a b ⌝ }
+{
+    if b < a { b } else { a }
 }
 
 // Neither an infinity nor NaN.

@@ -7,7 +7,7 @@ ghost use lib.IntN.{pos};
 ghost use lib.Ieee.{binary32, binary64, ofInt, ofBits, toBits};
 ghost use lib.Ieee.Scale.{finite};
 ghost use lib.Ieee.Positive.{num, den};
-ghost use Rattle.arithmetic_floats.specs.Float.{halvings, Least, powerOfTwo, inversePowerOfTwo, nearInteger, integerOf, magnitude as magnitudeOf, larger as largerOf};
+ghost use Rattle.arithmetic_floats.specs.Float.{halvings, Least, powerOfTwo, inversePowerOfTwo, nearInteger, integerOf, magnitude as magnitudeOf, larger as largerOf, smaller as smallerOf};
 use std::num::f32_to_f64_with_nan;
 
 // The magnitude of x. That of -0 is +0, and that of a NaN is a NaN.
@@ -22,6 +22,13 @@ pub fn larger(a: f32, b: f32) -> f32
     ensures { λ r. ⌜ r ≡ largerOf a b ⌝ }
 {
     if a < b { b } else { a }
+}
+
+// b where b < a, and a otherwise.
+pub fn smaller(a: f32, b: f32) -> f32
+    ensures { λ r. ⌜ r ≡ smallerOf a b ⌝ }
+{
+    if b < a { b } else { a }
 }
 
 // Neither an infinity nor NaN.

@@ -2,7 +2,7 @@
 use Prim.Native.Nat.{ℕ, zero, suc, _*_}
 use mathlib.Core.List.{List}
 use lib.Ieee.{Float, Format}
-use Rattle.arithmetic_floats.specs.Float.{+zero, magnitude, larger}
+use Rattle.arithmetic_floats.specs.Float.{+zero, +infinity, magnitude, larger, smaller}
 use Rattle.arithmetic_floats.specs.Root.{sqrtOf}
 use Rattle.arithmetic_matrices.specs.Matrix.{item, at}
 use Rattle.arithmetic_matrices.specs.Product.{sum, dot, subM}
@@ -17,6 +17,12 @@ unfoldable pub largest : ℕ → (ℕ → Float) → Float
 unfolding larger
 largest zero g = +zero
 largest (suc k) g = larger (largest k g) (g k)
+
+-- the smallest of plus infinity, g 0, .., g (k - 1): a NaN never wins
+unfoldable pub smallest : ℕ → (ℕ → Float) → Float
+unfolding smaller
+smallest zero g = +infinity
+smallest (suc k) g = smaller (smallest k g) (g k)
 
 -- the 1-norm: the largest column sum of magnitudes
 unfoldable pub norm1 : Format → ℕ → List Float → Float

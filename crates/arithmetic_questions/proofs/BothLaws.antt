@@ -103,14 +103,14 @@ module _ (p : Profile) (c : Call) (q : Question) (h : found q ≡ asked p c) (cl
 -- ---- two calls on the way
 
 -- Where the first of two calls refuses, with y, both outputs stay as they are.
-pub both-refused : {A : Type 0} (x : Result A) (g : A → Result Both) (ss : List ℕ) (n : ℕ) (o : Outcome) (y : Refusal) (w w′ : List Float)
-    → reported o ≡ outcome x → o ≡ Refused y → Only (member ss) w w′ → ReplacedBoth ss n (x >>= g) (Refused y) w w′
+pub both-refused : {A : Type 0} (x : Result A) (g : A → Result Both) (ss : List ℕ) (n : ℕ) (o q : Outcome) (y : Refusal) (w w′ : List Float)
+    → reported o ≡ outcome x → o ≡ Refused y → reported q ≡ numbered y → Only (member ss) w w′ → ReplacedBoth ss n (x >>= g) q w w′
 unfolding _>>=_ outcome exit
-both-refused {A} x g ss n o y w w′ h e only =
+both-refused {A} x g ss n o q y w w′ h e eq only =
     let (k, i, j, ex, en) = call-refused x o y h e in
     let b : (x >>= g) ≡ refused k i j = ap (λ (z : Result A). z >>= g) ex in
     record {
-      outcome = en ∙ ap outcome (sym b);
+      outcome = eq ∙ en ∙ ap outcome (sym b);
       value = ap (λ (z : Result Both). exit (λ (q : Both). q .value) z (slot n w′ 0)) (sym b);
       derivative = ap (λ (z : Result Both). exit (λ (q : Both). q .derivative) z (slot n w′ 1)) (sym b);
       only = only;

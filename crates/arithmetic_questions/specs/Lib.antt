@@ -1,5 +1,6 @@
 pub mod Result
 pub mod Questions
 pub mod Answers
+pub mod Reports
 pub mod Outputs
 pub mod Kernels

@@ -1,7 +1,11 @@
-// What a call answers: done, with its halvings, or refused, with the details of the refusal.
+// What a call answers: done, with its halvings, or refused, with the details of the refusal; and what its run reports. A report is the same in both widths.
 ghost use mathlib.Core.Path.{_≡_};
+ghost use lib.Ieee.{binary64, toBits};
 ghost use Rattle.arithmetic_questions.specs.Result.{done as doneWith};
 ghost use Rattle.arithmetic_questions.specs.Answers.{numbered, reported};
+ghost use Rattle.arithmetic_questions.specs.Reports.{nothing as nothingReported, beside as besideOf, refusedReport, reportAt};
+use arithmetic_floats::float::bits_of;
+use arithmetic_floats::float::smaller;
 
 // Why a call is refused. specs/Answers.antt gives each case its number.
 pub enum Refusal {
@@ -28,8 +32,15 @@ pub enum Outcome {
     Refused(Refusal),
 }
 
+// What an answer reports beside its outcome: the smallest magnitude of a pivot over all LU factorings of the run that succeeded, NaN pivots skipped; plus
+// infinity where there is none, and in a refused call.
+pub struct Report {
+    pub smallest: f64,
+}
+
 pub struct Answer {
     pub outcome: Outcome,
+    pub report: Report,
 }
 
 // What a question finds.
@@ -38,20 +49,75 @@ pub enum Question {
     No(Refusal),
 }
 
-// The answer that carries a refusal.
-pub fn refused(why: Refusal) -> Answer
-    ensures { λ r. ⌜ reported (r .outcome) ≡ numbered why ⌝ }
+// The bits of the smallest pivot.
+pub fn smallest_bits(report: Report) -> u64
+    ensures { λ r. ⌜ r ≡ toBits binary64 (report .smallest) ⌝ }
 {
-    Answer {
-        outcome: Outcome::Refused(why),
+    bits_of(report.smallest)
+}
+
+// The report of a part that factors nothing.
+pub fn nothing() -> Report
+    ensures { λ r. ⌜ r ≡ nothingReported ⌝ }
+{
+    Report {
+        smallest: 1.0 / 0.0,
     }
 }
 
-// The answer of a call that is done.
+// The report of two parts of a run.
+pub fn beside(a: Report, b: Report) -> Report
+    ensures { λ r. ⌜ r ≡ besideOf a b ⌝ }
+{
+    Report {
+        smallest: smaller(a.smallest, b.smallest),
+    }
+}
+
+// The report of a refused call.
+fn refused_report() -> Report
+    ensures { λ r. ⌜ r ≡ refusedReport ⌝ }
+{
+    Report {
+        smallest: 1.0 / 0.0,
+    }
+}
+
+// The answer that carries a refusal.
+pub fn refused(why: Refusal) -> Answer
+    ensures { λ r. ⌜ reported (r .outcome) ≡ numbered why ⌝ }
+    ensures { λ r. ⌜ r .report ≡ refusedReport ⌝ }
+{
+    Answer {
+        outcome: Outcome::Refused(why),
+        report: refused_report(),
+    }
+}
+
+// The answer of a call that is done and factored nothing.
 pub fn done(halvings: u64) -> Answer
     ensures { λ r. ⌜ reported (r .outcome) ≡ doneWith halvings tt ⌝ }
+    ensures { λ r. ⌜ r .report ≡ nothingReported ⌝ }
 {
     Answer {
         outcome: Outcome::Done { halvings },
+        report: nothing(),
+    }
+}
+
+// The answer with this outcome, which reports `report` where it is done.
+pub fn answering(outcome: Outcome, report: Report) -> Answer
+    ensures { λ r. ⌜ r .outcome ≡ outcome ⌝ }
+    ensures { λ r. ⌜ r .report ≡ reportAt (reported outcome) report ⌝ }
+{
+    match outcome {
+        Outcome::Done { halvings } => Answer {
+            outcome: Outcome::Done { halvings },
+            report,
+        },
+        Outcome::Refused(why) => Answer {
+            outcome: Outcome::Refused(why),
+            report: refused_report(),
+        },
     }
 }

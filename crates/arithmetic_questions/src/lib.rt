@@ -2,3 +2,4 @@
 pub mod answer;
 pub mod output;
 pub mod question;
+pub mod report;

@@ -1,4 +1,5 @@
 // The end of a call: its outputs are written where it is done, and the workspace is cleared where `clears` says so.
+ghost use mathlib.Core.Path.{_≡_};
 ghost use Prim.Native.Nat.{_≤_};
 ghost use lib.ListN.{length};
 ghost use Rattle.arithmetic_matrices.specs.Matrix.{part};
@@ -7,48 +8,50 @@ use arithmetic_matrices32::workspace::clear_where;
 use arithmetic_matrices32::workspace::copy_out;
 use arithmetic_questions::answer::Answer;
 use arithmetic_questions::answer::Outcome;
-use arithmetic_questions::answer::done;
-use arithmetic_questions::answer::refused;
 
-// What stands from slot 0 on is written to out.
-pub fn deliver(outcome: Outcome, out: &mut [f32], w: &mut [f32], clears: bool) -> Answer
+// What stands from slot 0 on is written to out, where the answer is done. The answer is handed on.
+pub fn deliver(answer: Answer, out: &mut [f32], w: &mut [f32], clears: bool) -> Answer
     requires { ⌜ (length (now out) ≤ 8192) × (8192 ≤ length (now w)) ⌝ }
-    ensures { λ r. ⌜ Delivered clears outcome (r .outcome) (part (now (w .entry)) 0 (length (now (out .entry)))) (now (out .entry)) (now (out .exit)) (now (w .entry)) (now (w .exit)) ⌝ }
+    ensures { λ r. ⌜ Delivered clears (answer .outcome) (r .outcome) (part (now (w .entry)) 0 (length (now (out .entry)))) (now (out .entry)) (now (out .exit)) (now (w .entry)) (now (w .exit)) ⌝ }
+    ensures { λ r. ⌜ r .report ≡ answer .report ⌝ }
 {
+    let outcome = answer.outcome;
     match outcome {
-        Outcome::Done { halvings } => {
+        Outcome::Done { halvings: _ } => {
             copy_out(w, 0, out);
             clear_where(w, clears);
-            done(halvings)
+            answer
         }
-        Outcome::Refused(why) => {
+        Outcome::Refused(_) => {
             clear_where(w, clears);
-            refused(why)
+            answer
         }
     }
 }
 
 // What stands in slot 0 is written to first, and what stands in slot 1 to second.
 pub fn deliver_both(
-    outcome: Outcome,
+    answer: Answer,
     first: &mut [f32],
     second: &mut [f32],
     w: &mut [f32],
     clears: bool,
 ) -> Answer
     requires { ⌜ (length (now first) ≤ 256) × (length (now second) ≤ 256) × (8192 ≤ length (now w)) ⌝ }
-    ensures { λ r. ⌜ DeliveredBoth clears outcome (r .outcome) (part (now (w .entry)) 0 (length (now (first .entry)))) (part (now (w .entry)) 256 (length (now (second .entry)))) (now (first .entry)) (now (first .exit)) (now (second .entry)) (now (second .exit)) (now (w .entry)) (now (w .exit)) ⌝ }
+    ensures { λ r. ⌜ DeliveredBoth clears (answer .outcome) (r .outcome) (part (now (w .entry)) 0 (length (now (first .entry)))) (part (now (w .entry)) 256 (length (now (second .entry)))) (now (first .entry)) (now (first .exit)) (now (second .entry)) (now (second .exit)) (now (w .entry)) (now (w .exit)) ⌝ }
+    ensures { λ r. ⌜ r .report ≡ answer .report ⌝ }
 {
+    let outcome = answer.outcome;
     match outcome {
-        Outcome::Done { halvings } => {
+        Outcome::Done { halvings: _ } => {
             copy_out(w, 0, first);
             copy_out(w, 1, second);
             clear_where(w, clears);
-            done(halvings)
+            answer
         }
-        Outcome::Refused(why) => {
+        Outcome::Refused(_) => {
             clear_where(w, clears);
-            refused(why)
+            answer
         }
     }
 }

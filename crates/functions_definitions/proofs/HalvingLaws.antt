@@ -23,7 +23,7 @@ abbrev reportedHalvings : Result (Unit {0}) → ℕ
 reportedHalvings (refused k x y) = 0
 reportedHalvings (done s a) = s
 
-abbrev IsDone : Result (Unit {0}) → Type 0
+abbrev pub IsDone : Result (Unit {0}) → Type 0
 IsDone (refused k x y) = ⊥
 IsDone (done s a) = Unit {0}
 
@@ -92,6 +92,16 @@ halvings-few x s e = go (halvingsFor x) (halvings-limited x) e
     go : (q : Result ℕ) → Limited q → (q >>= λ s. done s (tt {0})) ≡ done s tt → s ≤ 64
     go (refused k i j) h p = absurd (subst IsDone (sym p) tt)
     go (done t s) h p = subst (λ (n : ℕ). n ≤ 64) (ap reportedHalvings p) h
+
+-- halvings that are reported are the norm's
+pub halvings-are : (x : Float) (s : ℕ) → done s tt ≡ halvingsReport x → s ≡ halvings x
+unfolding halvingsReport halvingsFor firstNo _>>=_
+halvings-are x s e = go (finite x) (leb (halvings x) 64) e
+  where
+    go : (b c : Bool) → done s (tt {0}) ≡ ((firstNo (ask b 12 0 0 ∷ ask c 17 (halvings x) 0 ∷ []) >>= λ _. done 0 (halvings x)) >>= λ s. done s tt) → s ≡ halvings x
+    go true true p = ap reportedHalvings p
+    go true false p = absurd (subst IsDone p tt)
+    go false c p = absurd (subst IsDone p tt)
 
 module _ {A : Type 0} (x : Float) (g : ℕ → A) where
   -- what is done at these halvings reports them

@@ -3,3 +3,4 @@ pub mod PadeLaws
 pub mod FirstOutput
 pub mod LateLaws
 pub mod IterateLaws
+pub mod GatheredLaws

@@ -25,6 +25,17 @@ abbrev pub verdict : {S : Type 0} → Bool → S → Step S
 verdict true x = stopped x
 verdict false x = running x
 
+-- what h reads off the state that a pass starts from, and e where no pass is made
+abbrev pub during : {S R : Type 0} → R → (S → R) → Step S → R
+during e h (running x) = h x
+during e h (stopped x) = e
+during e h failed = e
+
+-- e, and then what each of the first k passes reads, joined by op; `states i` is the state after i passes
+unfoldable pub gathered : {S R : Type 0} → (R → R → R) → R → (S → R) → (ℕ → Step S) → ℕ → R
+gathered op e h states zero = e
+gathered op e h states (suc i) = op (gathered op e h states i) (during e h (states i))
+
 -- running out of passes still answers; a failed LU is refusal 13
 abbrev pub ended : {S : Type 0} → Step S → Result S
 ended (running x) = done 0 x

@@ -7,6 +7,7 @@ pub mod Iterate
 pub mod Kronecker
 pub mod Logarithm
 pub mod Powers
+pub mod Reports
 pub mod Roots
 pub mod Trigonometric
 pub mod Conditions

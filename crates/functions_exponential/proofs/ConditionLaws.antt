@@ -20,11 +20,13 @@ use Rattle.arithmetic_questions.specs.Result.{Result, refused, done, outcome, e
 use Rattle.arithmetic_questions.specs.Questions.{Call, Profile, asked, answer}
 use Rattle.arithmetic_questions.specs.Answers.{numbered, reported, found}
 use Rattle.arithmetic_questions.specs.Outputs.{WorkspaceLeft, Both}
+use Rattle.arithmetic_questions.specs.Reports.{refusedReport, reportAt}
 use Rattle.arithmetic_questions.specs.declared.answer.Outcome.{Outcome}
 use Rattle.arithmetic_questions.specs.declared.answer.Outcome.the-variants.{Done, Refused}
 use Rattle.arithmetic_questions.specs.declared.answer.Question.{Question}
 use Rattle.arithmetic_questions.specs.declared.answer.Question.the-variants.{Passed, No}
 use Rattle.arithmetic_questions.specs.declared.answer.Refusal.{Refusal}
+use Rattle.arithmetic_questions.specs.declared.answer.Report.{Report}
 use Rattle.arithmetic_matrices.proofs.MatrixLaws.{square-le}
 use Rattle.arithmetic_matrices.proofs.PartLaws.{part-put}
 use Rattle.arithmetic_matrices.proofs.ProductLaws.{length-diagonalM}
@@ -32,7 +34,9 @@ use Rattle.arithmetic_matrices.proofs.Slots.{only-store, only-trans, cleared-on
 use Rattle.arithmetic_questions.proofs.QuestionLaws.{as-refused}
 use Rattle.arithmetic_questions.proofs.AnswerLaws.{answer-passed, outcome-no, exit-no}
 use Rattle.arithmetic_questions.proofs.OutputLaws.{Late, late-where}
+use Rattle.arithmetic_questions.proofs.ReportLaws.{report-as}
 use Rattle.functions_definitions.specs.Derivatives.{Condition, unitDirection, conditionOf, conditioned, condExpM, frechetExpM}
+use Rattle.functions_definitions.specs.Reports.{frechetExpReport, condExpReport}
 use Rattle.functions_exponential.specs.Kernels.{Written, rated}
 use Rattle.functions_definitions.specs.Conditions.{noCondition, Conditioned}
 
@@ -58,6 +62,22 @@ answered-none c z given o y e k h =
     let (i, j, l, n) = as-refused y in
     rw (e, n) (record { outcome = k ∙ n; condition = h })
 
+pub reports-done : (v : Report) (given : Outcome) (s : ℕ) → given ≡ Done s → v ≡ reportAt (reported given) v
+unfolding reportAt exit
+reports-done v given s e = rw e refl
+
+pub reports-none : (v ρ : Report) (given : Outcome) (y : Refusal) → given ≡ Refused y → ρ ≡ refusedReport → ρ ≡ reportAt (reported given) v
+unfolding reportAt exit
+reports-none v ρ given y e k =
+    let (i, j, l, n) = as-refused y in
+    rw (e, n) k
+
+-- what is read at an outcome twice
+reports-twice : {A : Type 0} (x : Result A) (v : Report) → reportAt x (reportAt x v) ≡ reportAt x v
+unfolding reportAt exit
+reports-twice (refused k i j) v = refl
+reports-twice (done s a) v = refl
+
 -- ---- the unit direction, the derivative in it, and the answer
 
 module _ (f : Format) (n : ℕ) (small : n ≤ 16) (a w w1 w2 e x x′ d d′ : List Float) (given : Outcome) (e1 : w1 ≡ store w 0 (unitDirection f n)) (ee : e ≡ unitDirection f n)
@@ -76,6 +96,19 @@ module _ (f : Format) (n : ℕ) (small : n ≤ 16) (a w w1 w2 e x x′ d d′ : 
       go : (z : Result Both) → reported given ≡ outcome z → x′ ≡ exit (λ (b : Both). b .value) z x → d′ ≡ exit (λ (b : Both). b .derivative) z d → Conditioned (conditioned f n z) o c
       go (refused k i j) t u v = rw t at C
       go (done s b) t u v = rw (t, u, v) at C
+
+  pub condition-reported : (ρ ρ′ : Report) → ρ ≡ reportAt (frechetExpM f n a e) (frechetExpReport f n a e) → ρ′ ≡ reportAt (reported given) ρ → ρ′ ≡ reportAt (condExpM f n a) (condExpReport f n a)
+  unfolding condExpM condExpReport reportAt conditioned exit
+  condition-reported ρ ρ′ p q =
+      let z = frechetExpM f n a (unitDirection f n) in
+      let v = frechetExpReport f n a (unitDirection f n) in
+      let h : reported given ≡ outcome z = W .outcome ∙ ap (λ (e : List Float). outcome (frechetExpM f n a e)) ee in
+      let u : ρ ≡ reportAt (reported given) v = p ∙ ap (λ (e : List Float). reportAt (frechetExpM f n a e) (frechetExpReport f n a e)) ee ∙ sym (report-as z v given h) in
+      q ∙ ap (reportAt (reported given)) u ∙ reports-twice (reported given) v ∙ report-as z v given h ∙ same z v
+    where
+      same : (z : Result Both) (v : Report) → reportAt z v ≡ reportAt (conditioned f n z) v
+      same (refused k i j) v = refl
+      same (done s b) v = refl
 
 -- ---- the call
 

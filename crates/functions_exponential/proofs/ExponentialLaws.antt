@@ -14,6 +14,7 @@ use Rattle.lu_factoring.specs.declared.LuOutcome.the-variants.{Factored, Singul
 use Rattle.arithmetic_floats.specs.Float.{+zero, inversePowerOfTwo}
 use Rattle.arithmetic_floats.proofs.Constants.{one-bits}
 use Rattle.arithmetic_matrices.specs.Matrix.{at, item, part}
+use Rattle.arithmetic_matrices.specs.Norm.{norm1}
 use Rattle.arithmetic_matrices.specs.Product.{zeroM, dot, addMultipleM, identityM, timesM, squared, mulM}
 use Rattle.arithmetic_matrices.specs.Workspace.{Room, slot, store, member, Only}
 use Rattle.arithmetic_matrices.specs.Kernels.{Squared}
@@ -23,18 +24,22 @@ use Rattle.arithmetic_matrices.proofs.ProductLaws.{length-zeroM, at-tab, length
 use Rattle.arithmetic_matrices.proofs.Slots.{only-trans, only-more, length-slot, slot-only, only-refl}
 use Rattle.arithmetic_matrices.proofs.States.{held, Held, listed, State, start, step-identity, step-zero, step-accumulate, step-call, state-listed, holds-as, held-at, member-among, step-times, step-copy-in, step-copy, step-mult, Holds}
 use Rattle.lu_factoring.specs.Lu.{luOutcome}
+use Rattle.lu_factoring.specs.Pivots.{smallestPivot}
 use Rattle.lu_factoring.specs.Solve.{standIn, quotient}
 use Rattle.lu_factoring.specs.Kernels.{divided}
 use Rattle.lu_factoring.proofs.DivisionLaws.{divided-slot, divided-only}
 use Rattle.arithmetic_questions.specs.Result.{done, _>>=_, outcome, exit}
-use Rattle.arithmetic_questions.specs.Answers.{reported}
+use Rattle.arithmetic_questions.specs.Answers.{numbered, reported}
 use Rattle.arithmetic_questions.specs.Kernels.{Replaced}
+use Rattle.arithmetic_questions.specs.Reports.{factored}
 use Rattle.arithmetic_questions.specs.declared.answer.Outcome.{Outcome}
 use Rattle.arithmetic_questions.specs.declared.answer.Outcome.the-variants.{Done, Refused}
 use Rattle.arithmetic_questions.specs.declared.answer.Refusal.{Refusal}
+use Rattle.arithmetic_questions.specs.declared.answer.Report.{Report}
 use Rattle.arithmetic_questions.proofs.BothLaws.{call-refused}
 use Rattle.functions_definitions.specs.Powers.{halvingsFor, halvingsReport}
-use Rattle.functions_definitions.proofs.HalvingLaws.{halvings-outcome, halvings-set}
+use Rattle.functions_definitions.specs.Reports.{luReport, exponentialReport, expReport}
+use Rattle.functions_definitions.proofs.HalvingLaws.{halvings-are, halvings-outcome, halvings-set}
 use Rattle.functions_definitions.specs.Exponential.{coefficient, nextCoefficient, power, combinationTo, flipped, flip, numerator, denominator, combination, exponential, pade, scaled}
 use Rattle.functions_exponential.specs.Kernels.{nextPower, Raised, Summed, PadeQuotient, Approximated, Exponentiated}
 
@@ -180,6 +185,12 @@ module _ (f : Format) (n : ℕ) (w₀ : List Float) (r : Room n w₀) where
         only = only-trans (s1 .only) (rw e2 (divided-only f n 3 5 w1 r1 (lit< tt) o));
       }
 
+  -- the denominator is factored as the sums left it
+  pub quotient-reported : (w1 : List Float) (v : Float) → w1 ≡ store w₀ 5 (slot n w₀ 2) → v ≡ smallestPivot f n (part w1 768 (n * n)) → v ≡ smallestPivot f n (slot n w₀ 3)
+  quotient-reported w1 v e1 ev =
+      let s1 = step-copy n (r .order) 2 5 (start (member (3 ∷ 5 ∷ [])) n r) e1 refl refl refl in
+      ev ∙ ap (smallestPivot f n) (slot-three n w1 ∙ held-at 3 n s1 refl)
+
   -- the sums, their quotient, and the stand-in
   pub pade-steps : (w1 w2 w3 : List Float) (o : LuOutcome) → Summed f n w₀ w1 → PadeQuotient f n w1 w2 o → w3 ≡ store w2 0 (standIn o (slot n w2 5) (slot n w2 2)) → Approximated f n w₀ w3
   unfolding pade
@@ -195,6 +206,10 @@ module _ (f : Format) (n : ℕ) (w₀ : List Float) (r : Room n w₀) where
       let s3 = step-copy-in n (r .order) 0 (standIn o (slot n w2 5) (slot n w2 2)) s2 e3 (length-standIn o (slot n w2 5) (slot n w2 2) (length-slot n w2 5) (length-slot n w2 2)) refl refl in
       record { result = held-at 0 n s3 refl ∙ x; only = s3 .only }
 
+  pub pade-reported : (w1 : List Float) (v : Float) (ρ : Report) → Summed f n w₀ w1 → v ≡ smallestPivot f n (slot n w1 3) → ρ ≡ factored v → ρ ≡ luReport f n (denominator f n (slot n w₀ 0))
+  unfolding luReport
+  pade-reported w1 v ρ P ev e = e ∙ ap factored (ev ∙ ap (smallestPivot f n) (P .under))
+
   -- scaling, the quotient, and the squarings
   pub exponential-steps : (s : ℕ) (w1 w2 w3 : List Float) → w1 ≡ store w₀ 0 (timesM f n (inversePowerOfTwo s) (slot n w₀ 0)) → Approximated f n w1 w2 → Squared f n w2 0 4 s w3 → Exponentiated f n s w₀ w3
   unfolding exponential scaled
@@ -205,18 +220,29 @@ module _ (f : Format) (n : ℕ) (w₀ : List Float) (r : Room n w₀) where
         only = only-trans (s1 .only) (only-trans (P .only) (only-more (member-among all (0 ∷ 4 ∷ []) refl) (Q .only)));
       }
 
+  pub scaled-reported : (s : ℕ) (w1 : List Float) (ρ : Report) → w1 ≡ store w₀ 0 (timesM f n (inversePowerOfTwo s) (slot n w₀ 0)) → ρ ≡ luReport f n (denominator f n (slot n w1 0)) → ρ ≡ exponentialReport f n s (slot n w₀ 0)
+  unfolding exponentialReport scaled
+  scaled-reported s w1 ρ e1 e =
+      let s1 = step-times n (r .order) f (inversePowerOfTwo s) 0 0 (start all n r) e1 refl refl refl in
+      e ∙ ap (λ (a : List Float). luReport f n (denominator f n a)) (held-at 0 n s1 refl)
+
+-- the halvings of the norm are those that were reported
+pub halved-reported : (f : Format) (n s : ℕ) (a : List Float) (o : Outcome) (ρ : Report) → reported o ≡ halvingsReport (norm1 f n a) → o ≡ Done s → ρ ≡ exponentialReport f n s a → ρ ≡ expReport f n a
+unfolding expReport
+halved-reported f n s a o ρ H eo e = e ∙ ap (λ (t : ℕ). exponentialReport f n t a) (halvings-are (norm1 f n a) s (sym (ap reported eo) ∙ H))
+
 -- ---- a matrix in slot 0 that g replaces at the halvings of the norm x
 
 module _ (ss : List ℕ) (n : ℕ) (g : ℕ → List Float) (x : Float) (o : Outcome) (H : reported o ≡ halvingsReport x) (w : List Float) where
-  pub halved-none : (y : Refusal) → o ≡ Refused y → Replaced ss n (halvingsFor x >>= λ s. done s (g s)) (Refused y) w w
+  pub halved-none : (y : Refusal) (o′ : Outcome) → o ≡ Refused y → reported o′ ≡ numbered y → Replaced ss n (halvingsFor x >>= λ s. done s (g s)) o′ w w
   unfolding outcome exit
-  halved-none y e =
+  halved-none y o′ e r =
       let (k, i, j, ex, en) = call-refused (halvingsFor x >>= λ s. done s (g s)) o y (H ∙ sym (halvings-outcome x g)) e in
-      rw ex (record { outcome = en; result = refl; only = only-refl (member ss) w })
+      rw ex (record { outcome = r ∙ en; result = refl; only = only-refl (member ss) w })
 
-  pub halved-done : (s : ℕ) (w′ : List Float) → o ≡ Done s → slot n w′ 0 ≡ g s → Only (member ss) w w′ → Replaced ss n (halvingsFor x >>= λ s. done s (g s)) (Done s) w w′
+  pub halved-done : (s : ℕ) (o′ : Outcome) (w′ : List Float) → o ≡ Done s → reported o′ ≡ done s tt → slot n w′ 0 ≡ g s → Only (member ss) w w′ → Replaced ss n (halvingsFor x >>= λ s. done s (g s)) o′ w w′
   unfolding outcome exit
-  halved-done s w′ e r k = rw (halvings-set x g s (sym H ∙ ap reported e)) (record { outcome = refl; result = r; only = k })
+  halved-done s o′ w′ e h r k = rw (halvings-set x g s (sym H ∙ ap reported e)) (record { outcome = h; result = r; only = k })
 
 -- ---- a term of the sums, and the last
 

@@ -14,19 +14,23 @@ use Rattle.arithmetic_questions.specs.Questions.{Call, Profile, asked, answer}
 use Rattle.arithmetic_questions.specs.Answers.{reported, found}
 use Rattle.arithmetic_questions.specs.Outputs.{Both, TwoOutputsWith}
 use Rattle.arithmetic_questions.specs.Kernels.{Replaced}
+use Rattle.arithmetic_questions.specs.Reports.{reportAt}
 use Rattle.arithmetic_questions.specs.declared.answer.Outcome.{Outcome}
 use Rattle.arithmetic_questions.specs.declared.answer.Outcome.the-variants.{Done, Refused}
 use Rattle.arithmetic_questions.specs.declared.answer.Question.{Question}
 use Rattle.arithmetic_questions.specs.declared.answer.Question.the-variants.{Passed}
 use Rattle.arithmetic_questions.specs.declared.answer.Refusal.{Refusal}
+use Rattle.arithmetic_questions.specs.declared.answer.Report.{Report}
 use Rattle.arithmetic_matrices.proofs.MatrixLaws.{square-le, length-grid, row-end}
 use Rattle.arithmetic_matrices.proofs.Slots.{slot-store, only-store, only-trans, only-more, cleared-only}
 use Rattle.arithmetic_matrices.proofs.States.{among, member-among}
 use Rattle.arithmetic_questions.proofs.AnswerLaws.{answer-passed}
+use Rattle.arithmetic_questions.proofs.ReportLaws.{report-delivered}
 use Rattle.arithmetic_questions.proofs.OutputLaws.{Late, late-where, exit-done, exit-refused, exit-as}
 use Rattle.functions_definitions.specs.Exponential.{block, quarter, exponential}
 use Rattle.functions_definitions.specs.Powers.{expM, halvingsFor}
 use Rattle.functions_definitions.specs.Derivatives.{frechetExpM, blockQuarters}
+use Rattle.functions_definitions.specs.Reports.{expReport, frechetExpReport}
 use Rattle.functions_exponential.specs.Kernels.{Quartered, Written}
 use Rattle.functions_definitions.specs.Frechet.{FirstAlone}
 use Rattle.arithmetic_matrices.specs.Norm.{norm1}
@@ -52,11 +56,11 @@ block-rows n i small h = (row-end i n (n + n) h, omega (arith, add-mul n n (n + 
 -- ---- the ends of write_quarters
 
 pub quartered-done : (n : ℕ) (given : Outcome) (w first first′ second second′ : List Float) (s : ℕ) → given ≡ Done s → first′ ≡ quarter n 0 (slot (n + n) w 0) → second′ ≡ quarter n n (slot (n + n) w 0)
-    → Quartered n given (Done s) w first first′ second second′
-quartered-done n given w first first′ second second′ s e p q = record { outcome = ap reported (sym e); value = p ∙ sym (exit-done _ first given s e); derivative = q ∙ sym (exit-done _ second given s e) }
+    → Quartered n given given w first first′ second second′
+quartered-done n given w first first′ second second′ s e p q = record { outcome = refl; value = p ∙ sym (exit-done _ first given s e); derivative = q ∙ sym (exit-done _ second given s e) }
 
-pub quartered-none : (n : ℕ) (given : Outcome) (w first second : List Float) (y : Refusal) → given ≡ Refused y → Quartered n given (Refused y) w first first second second
-quartered-none n given w first second y e = record { outcome = ap reported (sym e); value = sym (exit-refused _ first given y e); derivative = sym (exit-refused _ second given y e) }
+pub quartered-none : (n : ℕ) (given : Outcome) (w first second : List Float) (y : Refusal) → given ≡ Refused y → Quartered n given given w first first second second
+quartered-none n given w first second y e = record { outcome = refl; value = sym (exit-refused _ first given y e); derivative = sym (exit-refused _ second given y e) }
 
 -- ---- all the steps
 
@@ -90,6 +94,14 @@ frechet-written f n ss a e first first′ second second′ w w1 w2 given o r m e
           derivative = Q .derivative ∙ exit-as _ second given (blockQuarters n x) (λ (b : Both). b .derivative) same d;
           only = within;
         }
+
+-- and the report is that of the block's exponential
+pub frechet-reported : (f : Format) (n : ℕ) (a e w w1 : List Float) (given o : Outcome) (ρ ρ′ : Report) → Room (n + n) w → w1 ≡ store w 0 (block n a e)
+    → reported o ≡ outcome (frechetExpM f n a e) → reported given ≡ outcome (expM f (n + n) (slot (n + n) w1 0)) → reported o ≡ reported given
+    → ρ ≡ reportAt (expM f (n + n) (slot (n + n) w1 0)) (expReport f (n + n) (slot (n + n) w1 0)) → ρ′ ≡ ρ → ρ′ ≡ reportAt (frechetExpM f n a e) (frechetExpReport f n a e)
+unfolding frechetExpReport
+frechet-reported f n a e w w1 given o ρ ρ′ r e1 h k same p q =
+    report-delivered (frechetExpM f n a e) (expM f (n + n) (slot (n + n) w1 0)) (expReport f (n + n)) ρ ρ′ o given (n + n) (block n a e) w w1 (omega (arith, square-le (n + n) (r .order), r .space)) (length-block n a e) e1 h k same p q
 
 -- ---- the call
 

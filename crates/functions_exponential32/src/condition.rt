@@ -11,10 +11,12 @@ ghost use Rattle.arithmetic_matrices.specs.Workspace.{Room, Only, store};
 ghost use Rattle.arithmetic_questions.specs.Answers.{numbered, reported};
 ghost use Rattle.arithmetic_questions.specs.Result.{workspace};
 ghost use Rattle.arithmetic_questions.specs.Outputs.{WorkspaceLeft};
+ghost use Rattle.arithmetic_questions.specs.Reports.{refusedReport, reportAt};
 ghost use Rattle.functions_definitions.specs.Derivatives.{unitDirection, conditionOf, condExpM};
 ghost use Rattle.functions_exponential.specs.Kernels.{rated};
 ghost use Rattle.functions_definitions.specs.Conditions.{noCondition, Conditioned};
 ghost use Rattle.functions_definitions.specs.Calls.{condExpm};
+ghost use Rattle.functions_definitions.specs.Reports.{condExpReport};
 use crate::frechet::frechet_expm_in;
 use arithmetic_floats32::float::of_small;
 use arithmetic_floats32::root::sqrt;
@@ -23,9 +25,12 @@ use arithmetic_matrices32::workspace::clear_where;
 use arithmetic_matrices32::workspace::copy_out;
 use arithmetic_matrices32::workspace::diagonal;
 use arithmetic_matrices32::workspace::small_room;
+use arithmetic_questions::answer::Answer;
 use arithmetic_questions::answer::Outcome;
 use arithmetic_questions::answer::Question;
 use arithmetic_questions::answer::Refusal;
+use arithmetic_questions::answer::Report;
+use arithmetic_questions::answer::refused;
 use arithmetic_questions32::question::ask_cond_expm;
 
 // The ratio of the norms, and the Frobenius norms of the derivative and of the exponential.
@@ -39,6 +44,7 @@ pub struct Condition {
 pub struct ConditionAnswer {
     pub outcome: Outcome,
     pub condition: Condition,
+    pub report: Report,
 }
 
 // The direction I / root of n is written to out, and to slot 0.
@@ -75,30 +81,40 @@ fn condition_of(x: &[f32], d: &[f32], n: usize) -> Condition
 
 // The answer that carries a refusal.
 fn refused_condition(why: Refusal) -> ConditionAnswer
-    ensures { λ r. ⌜ (reported (r .outcome) ≡ numbered why) × (record { ratio = r .condition .ratio; derivativeNorm = r .condition .«derivative_norm»; exponentialNorm = r .condition .«exponential_norm» } ≡ noCondition) ⌝ }
+    ensures { λ r. ⌜ reported (r .outcome) ≡ numbered why ⌝ }
+    ensures { λ r. ⌜ record { ratio = r .condition .ratio; derivativeNorm = r .condition .«derivative_norm»; exponentialNorm = r .condition .«exponential_norm» } ≡ noCondition ⌝ }
+    ensures { λ r. ⌜ r .report ≡ refusedReport ⌝ }
 {
     let condition = Condition {
         ratio: 0.0,
         derivative_norm: 0.0,
         exponential_norm: 0.0,
     };
+    let answer = refused(why);
+    let outcome = answer.outcome;
+    let report = answer.report;
     ConditionAnswer {
-        outcome: Outcome::Refused(why),
+        outcome,
         condition,
+        report,
     }
 }
 
-// The answer, from the outcome and, where that is done, the exponential x and the derivative d of order n.
-fn condition_answer(outcome: Outcome, x: &[f32], d: &[f32], n: usize) -> ConditionAnswer
+// The answer of the condition, from that of the derivative and, where it is done, the exponential x and the derivative d of order n.
+fn condition_answer(answer: Answer, x: &[f32], d: &[f32], n: usize) -> ConditionAnswer
     requires { ⌜ (length (now x) ≡ n * n) × (length (now d) ≡ n * n) × (n ≤ 8) ⌝ }
-    ensures { λ r. ⌜ Conditioned (rated (conditionOf binary32 (frobenius binary32 n (now (x .entry))) (frobenius binary32 n (now (d .entry)))) (reported outcome)) (r .outcome) (record { ratio = r .condition .ratio; derivativeNorm = r .condition .«derivative_norm»; exponentialNorm = r .condition .«exponential_norm» }) ⌝ }
+    ensures { λ r. ⌜ Conditioned (rated (conditionOf binary32 (frobenius binary32 n (now (x .entry))) (frobenius binary32 n (now (d .entry)))) (reported (answer .outcome))) (r .outcome) (record { ratio = r .condition .ratio; derivativeNorm = r .condition .«derivative_norm»; exponentialNorm = r .condition .«exponential_norm» }) ⌝ }
+    ensures { λ r. ⌜ r .report ≡ reportAt (reported (answer .outcome)) (answer .report) ⌝ }
 {
+    let outcome = answer.outcome;
     match outcome {
         Outcome::Done { halvings } => {
             let condition = condition_of(x, d, n);
+            let report = answer.report;
             ConditionAnswer {
                 outcome: Outcome::Done { halvings },
                 condition,
+                report,
             }
         }
         Outcome::Refused(why) => refused_condition(why),
@@ -118,10 +134,11 @@ fn cond_expm_in(
     requires { ⌜ (n ≤ 8) × (length (now a) ≡ n * n) × (length (now e) ≡ n * n) × (length (now x) ≡ n * n) × (length (now d) ≡ n * n) ⌝ }
     ensures { λ r. ⌜ Conditioned (condExpM binary32 n (now (a .entry))) (r .outcome) (record { ratio = r .condition .ratio; derivativeNorm = r .condition .«derivative_norm»; exponentialNorm = r .condition .«exponential_norm» }) ⌝ }
     ensures { λ _. ⌜ Only (λ s. ltb s 32) (now (w .entry)) (now (w .exit)) ⌝ }
+    ensures { λ r. ⌜ r .report ≡ reportAt (condExpM binary32 n (now (a .entry))) (condExpReport binary32 n (now (a .entry))) ⌝ }
 {
     unit_direction(w, n, e);
-    let outcome = frechet_expm_in(n, a, e, x, d, w);
-    condition_answer(outcome, x, d, n)
+    let answer = frechet_expm_in(n, a, e, x, d, w);
+    condition_answer(answer, x, d, n)
 }
 
 // `cond_expm_in` with room of its own.
@@ -130,6 +147,7 @@ fn cond_expm_with_room(n: usize, a: &[f32], w: &mut [f32]) -> ConditionAnswer
     requires { ⌜ (n ≤ 8) × (length (now a) ≡ n * n) ⌝ }
     ensures { λ r. ⌜ Conditioned (condExpM binary32 n (now (a .entry))) (r .outcome) (record { ratio = r .condition .ratio; derivativeNorm = r .condition .«derivative_norm»; exponentialNorm = r .condition .«exponential_norm» }) ⌝ }
     ensures { λ _. ⌜ Only (λ s. ltb s 32) (now (w .entry)) (now (w .exit)) ⌝ }
+    ensures { λ r. ⌜ r .report ≡ reportAt (condExpM binary32 n (now (a .entry))) (condExpReport binary32 n (now (a .entry))) ⌝ }
 {
     let count = n * n;
     let mut e = small_room();
@@ -148,6 +166,7 @@ pub fn cond_expm_with(
 ) -> ConditionAnswer
     ensures { λ r. ⌜ Conditioned (condExpm binary32 rows columns (now (a .entry)) (length (now (w .entry)))) (r .outcome) (record { ratio = r .condition .ratio; derivativeNorm = r .condition .«derivative_norm»; exponentialNorm = r .condition .«exponential_norm» }) ⌝ }
     ensures { λ _. ⌜ WorkspaceLeft clears (condExpm binary32 rows columns (now (a .entry)) (length (now (w .entry)))) (now (w .entry)) (now (w .exit)) ⌝ }
+    ensures { λ r. ⌜ r .report ≡ reportAt (condExpm binary32 rows columns (now (a .entry)) (length (now (w .entry)))) (condExpReport binary32 rows (now (a .entry))) ⌝ }
 {
     match ask_cond_expm(rows, columns, a, w.len()) {
         Question::No(why) => refused_condition(why),
@@ -163,6 +182,7 @@ pub fn cond_expm_with(
 pub fn cond_expm(rows: usize, columns: usize, a: &[f32], w: &mut [f32]) -> ConditionAnswer
     ensures { λ r. ⌜ Conditioned (condExpm binary32 rows columns (now (a .entry)) (length (now (w .entry)))) (r .outcome) (record { ratio = r .condition .ratio; derivativeNorm = r .condition .«derivative_norm»; exponentialNorm = r .condition .«exponential_norm» }) ⌝ }
     ensures { λ _. ⌜ now (w .exit) ≡ workspace (condExpm binary32 rows columns (now (a .entry)) (length (now (w .entry)))) (now (w .entry)) ⌝ }
+    ensures { λ r. ⌜ r .report ≡ reportAt (condExpm binary32 rows columns (now (a .entry)) (length (now (w .entry)))) (condExpReport binary32 rows (now (a .entry))) ⌝ }
 {
     cond_expm_with(rows, columns, a, w, true)
 }

@@ -5,8 +5,10 @@ ghost use Prim.Native.Nat.{_*_, _<_, _≤_};
 ghost use lib.ListN.{length};
 ghost use lib.Ieee.{binary32};
 ghost use Rattle.arithmetic_matrices.specs.Workspace.{Room, slot, store};
+ghost use Rattle.lu_factoring.specs.Pivots.{smallestPivot};
 ghost use Rattle.lu_factoring.specs.Solve.{standIn};
-ghost use Rattle.functions_definitions.specs.Exponential.{nextCoefficient, flip as flipOf};
+ghost use Rattle.functions_definitions.specs.Exponential.{denominator, nextCoefficient, flip as flipOf};
+ghost use Rattle.functions_definitions.specs.Reports.{exponentialReport, luReport};
 ghost use Rattle.functions_exponential.specs.Kernels.{Raised, Summed, PadeQuotient, Approximated, Exponentiated};
 use arithmetic_floats32::float::inverse_power_of_two;
 use arithmetic_floats32::float::of_small;
@@ -19,10 +21,13 @@ use arithmetic_matrices32::workspace::mult;
 use arithmetic_matrices32::workspace::scale;
 use arithmetic_matrices32::workspace::square;
 use arithmetic_matrices32::workspace::zero;
+use arithmetic_questions::answer::Report;
+use arithmetic_questions32::report::factored;
 use lu_factoring::LuOutcome;
 use lu_factoring::room::pivot_room;
 use lu_factoring32::part::quotient_or_numerator;
-use lu_systems32::workspace::divide;
+use lu_systems32::workspace::Division;
+use lu_systems32::workspace::divide_reporting;
 
 // The Padé coefficient after c, which is coefficient k.
 pub fn next_coefficient(c: f32, k: usize) -> f32
@@ -73,13 +78,14 @@ pub fn pade_sums(w: &mut [f32], n: usize)
 
 // Slot 5 becomes the quotient of the numerator in slot 2 by the denominator in slot 3, or the numerator where LU refuses the denominator.
 // `pivots` is room for n pivots.
-fn pade_divide(w: &mut [f32], n: usize, pivots: &mut [usize]) -> LuOutcome
+fn pade_divide(w: &mut [f32], n: usize, pivots: &mut [usize]) -> Division
     requires { ⌜ Room n (now w) ⌝ }
     requires { ⌜ length (now pivots) ≡ n ⌝ }
-    ensures { λ r. ⌜ PadeQuotient binary32 n (now (w .entry)) (now (w .exit)) r ⌝ }
+    ensures { λ r. ⌜ PadeQuotient binary32 n (now (w .entry)) (now (w .exit)) (r .outcome) ⌝ }
+    ensures { λ r. ⌜ r .smallest ≡ smallestPivot binary32 n (slot n (now (w .entry)) 3) ⌝ }
 {
     copy(w, 2, 5, n);
-    divide(w, 768, 1280, n, n, pivots)
+    divide_reporting(w, 768, 1280, n, n, pivots)
 }
 
 // Copies the part of the workspace that holds the quotient, or the part that holds the numerator.
@@ -122,33 +128,39 @@ fn take_quotient(w: &mut [f32], n: usize, outcome: LuOutcome)
 }
 
 // The Padé quotient of the matrix in slot 0 takes its place.
-fn pade(w: &mut [f32], n: usize, pivots: &mut [usize])
+fn pade(w: &mut [f32], n: usize, pivots: &mut [usize]) -> Report
     requires { ⌜ Room n (now w) ⌝ }
     requires { ⌜ length (now pivots) ≡ n ⌝ }
     ensures { λ _. ⌜ Approximated binary32 n (now (w .entry)) (now (w .exit)) ⌝ }
+    ensures { λ r. ⌜ r ≡ luReport binary32 n (denominator binary32 n (slot n (now (w .entry)) 0)) ⌝ }
 {
     pade_sums(w, n);
-    let outcome = pade_divide(w, n, pivots);
+    let d = pade_divide(w, n, pivots);
+    let outcome = d.outcome;
     take_quotient(w, n, outcome);
+    factored(d.smallest)
 }
 
 // The exponential of the matrix in slot 0 at s halvings takes its place.
-fn exponential_in(w: &mut [f32], n: usize, s: u64, pivots: &mut [usize])
+fn exponential_in(w: &mut [f32], n: usize, s: u64, pivots: &mut [usize]) -> Report
     requires { ⌜ Room n (now w) ⌝ }
     requires { ⌜ (s ≤ 64) × (length (now pivots) ≡ n) ⌝ }
     ensures { λ _. ⌜ Exponentiated binary32 n s (now (w .entry)) (now (w .exit)) ⌝ }
+    ensures { λ r. ⌜ r ≡ exponentialReport binary32 n s (slot n (now (w .entry)) 0) ⌝ }
 {
     scale(w, 0, inverse_power_of_two(s), n);
-    pade(w, n, pivots);
+    let report = pade(w, n, pivots);
     square(w, 0, 4, n, s);
+    report
 }
 
 // `exponential_in` with room of its own.
-pub fn exponential_at(w: &mut [f32], n: usize, s: u64)
+pub fn exponential_at(w: &mut [f32], n: usize, s: u64) -> Report
     requires { ⌜ Room n (now w) ⌝ }
     requires { ⌜ s ≤ 64 ⌝ }
     ensures { λ _. ⌜ Exponentiated binary32 n s (now (w .entry)) (now (w .exit)) ⌝ }
+    ensures { λ r. ⌜ r ≡ exponentialReport binary32 n s (slot n (now (w .entry)) 0) ⌝ }
 {
     let mut pivots = pivot_room();
-    exponential_in(w, n, s, &mut pivots[..n]);
+    exponential_in(w, n, s, &mut pivots[..n])
 }

@@ -6,11 +6,13 @@ ghost use lib.Ieee.{binary32};
 ghost use Rattle.arithmetic_matrices.specs.Kernels.{withRow};
 ghost use Rattle.arithmetic_matrices.specs.Workspace.{Room, slot, store};
 ghost use Rattle.arithmetic_questions.specs.Outputs.{TwoOutputsIn, TwoOutputsWith};
+ghost use Rattle.arithmetic_questions.specs.Reports.{reportAt};
 ghost use Rattle.functions_definitions.specs.Exponential.{block, quarter};
 ghost use Rattle.functions_definitions.specs.Frechet.{FirstAlone};
 ghost use Rattle.functions_exponential.specs.Kernels.{quarterRow, Quartered, Written};
 ghost use Rattle.functions_definitions.specs.Derivatives.{frechetExpM};
 ghost use Rattle.functions_definitions.specs.Calls.{frechetExpm};
+ghost use Rattle.functions_definitions.specs.Reports.{frechetExpReport};
 use crate::expm::expm_in;
 use arithmetic_matrices32::matrix::place;
 use arithmetic_matrices32::workspace::clear_where;
@@ -70,23 +72,25 @@ fn copy_quarters(w: &[f32], n: usize, first: &mut [f32], second: &mut [f32])
     copy_quarter(b, n, n, second);
 }
 
-// The upper quarters of the matrix of order 2 n in slot 0 are copied to first and second where the outcome is done. It is returned.
+// The upper quarters of the matrix of order 2 n in slot 0 are copied to first and second where the answer is done. The answer is handed on.
 fn write_quarters(
-    outcome: Outcome,
+    answer: Answer,
     w: &[f32],
     n: usize,
     first: &mut [f32],
     second: &mut [f32],
-) -> Outcome
+) -> Answer
     requires { ⌜ (n ≤ 8) × (8192 ≤ length (now w)) × (length (now first) ≡ n * n) × (length (now second) ≡ n * n) ⌝ }
-    ensures { λ r. ⌜ Quartered n outcome r (now (w .entry)) (now (first .entry)) (now (first .exit)) (now (second .entry)) (now (second .exit)) ⌝ }
+    ensures { λ r. ⌜ Quartered n (answer .outcome) (r .outcome) (now (w .entry)) (now (first .entry)) (now (first .exit)) (now (second .entry)) (now (second .exit)) ⌝ }
+    ensures { λ r. ⌜ r .report ≡ answer .report ⌝ }
 {
+    let outcome = answer.outcome;
     match outcome {
-        Outcome::Done { halvings } => {
+        Outcome::Done { halvings: _ } => {
             copy_quarters(w, n, first, second);
-            Outcome::Done { halvings }
+            answer
         }
-        Outcome::Refused(why) => Outcome::Refused(why),
+        Outcome::Refused(_) => answer,
     }
 }
 
@@ -98,14 +102,15 @@ pub fn frechet_expm_in(
     first: &mut [f32],
     second: &mut [f32],
     w: &mut [f32],
-) -> Outcome
+) -> Answer
     requires { ⌜ Room (n + n) (now w) ⌝ }
     requires { ⌜ (n ≤ 8) × (length (now a) ≡ n * n) × (length (now e) ≡ n * n) × (length (now first) ≡ n * n) × (length (now second) ≡ n * n) ⌝ }
-    ensures { λ r. ⌜ Written (frechetExpM binary32 n (now (a .entry)) (now (e .entry))) r (now (first .entry)) (now (first .exit)) (now (second .entry)) (now (second .exit)) (now (w .entry)) (now (w .exit)) ⌝ }
+    ensures { λ r. ⌜ Written (frechetExpM binary32 n (now (a .entry)) (now (e .entry))) (r .outcome) (now (first .entry)) (now (first .exit)) (now (second .entry)) (now (second .exit)) (now (w .entry)) (now (w .exit)) ⌝ }
+    ensures { λ r. ⌜ r .report ≡ reportAt (frechetExpM binary32 n (now (a .entry)) (now (e .entry))) (frechetExpReport binary32 n (now (a .entry)) (now (e .entry))) ⌝ }
 {
     fill_block(w, n, a, e);
-    let outcome = expm_in(w, n + n);
-    write_quarters(outcome, w, n, first, second)
+    let answer = expm_in(w, n + n);
+    write_quarters(answer, w, n, first, second)
 }
 
 // `frechet_expm`, where the workspace is cleared only if `clears` is true.
@@ -123,6 +128,7 @@ pub fn frechet_expm_with(
 ) -> Answer
     ensures { λ r. ⌜ TwoOutputsWith clears (frechetExpm binary32 rows columns (now (a .entry)) height width (now (e .entry)) (length (now (first .entry))) (length (now (second .entry))) (length (now (w .entry)))) (r .outcome) (now (first .entry)) (now (first .exit)) (now (second .entry)) (now (second .exit)) (now (w .entry)) (now (w .exit)) ⌝ }
     ensures { λ r. ⌜ FirstAlone binary32 rows (r .outcome) (now (a .entry)) (now (e .entry)) (now (first .exit)) ⌝ }
+    ensures { λ r. ⌜ r .report ≡ reportAt (frechetExpm binary32 rows columns (now (a .entry)) height width (now (e .entry)) (length (now (first .entry))) (length (now (second .entry))) (length (now (w .entry)))) (frechetExpReport binary32 rows (now (a .entry)) (now (e .entry))) ⌝ }
 {
     match ask_frechet_expm(
         rows,
@@ -137,16 +143,16 @@ pub fn frechet_expm_with(
     ) {
         Question::No(why) => refused(why),
         Question::Passed => {
-            let outcome = frechet_expm_in(rows, a, e, first, second, w);
+            let answer = frechet_expm_in(rows, a, e, first, second, w);
             clear_where(w, clears);
-            Answer { outcome }
+            answer
         }
     }
 }
 
 // The exponential of A and its derivative in the direction E, of height by width, are written to first and second. The first clause says, for all input, the
 // outcome, both outputs and the workspace, by `frechetExpm` of specs/Calls.antt. The second is demand 3: specs/Frechet.antt says what it means, and
-// proofs/FirstOutput.antt proves it.
+// proofs/FirstOutput.antt proves it. The third is the report.
 pub fn frechet_expm(
     rows: usize,
     columns: usize,
@@ -160,6 +166,7 @@ pub fn frechet_expm(
 ) -> Answer
     ensures { λ r. ⌜ TwoOutputsIn (frechetExpm binary32 rows columns (now (a .entry)) height width (now (e .entry)) (length (now (first .entry))) (length (now (second .entry))) (length (now (w .entry)))) (r .outcome) (now (first .entry)) (now (first .exit)) (now (second .entry)) (now (second .exit)) (now (w .entry)) (now (w .exit)) ⌝ }
     ensures { λ r. ⌜ FirstAlone binary32 rows (r .outcome) (now (a .entry)) (now (e .entry)) (now (first .exit)) ⌝ }
+    ensures { λ r. ⌜ r .report ≡ reportAt (frechetExpm binary32 rows columns (now (a .entry)) height width (now (e .entry)) (length (now (first .entry))) (length (now (second .entry))) (length (now (w .entry)))) (frechetExpReport binary32 rows (now (a .entry)) (now (e .entry))) ⌝ }
 {
     frechet_expm_with(rows, columns, a, height, width, e, first, second, w, true)
 }

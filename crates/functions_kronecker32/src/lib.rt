@@ -11,6 +11,7 @@ ghost use Rattle.arithmetic_matrices.specs.Matrix.{tab, grid, at, put};
 ghost use Rattle.arithmetic_matrices.specs.Product.{diagonalEntry};
 ghost use Rattle.functions_definitions.specs.Calls.{kronSum, kron as kronOf};
 ghost use Rattle.arithmetic_questions.specs.Outputs.{OneOutput};
+ghost use Rattle.arithmetic_questions.specs.Reports.{nothing, reportAt};
 ghost use Rattle.functions_definitions.specs.Kronecker.{kronM, kronSumM};
 ghost use Rattle.functions_kronecker.specs.Kernels.{kronEntry, kronSumEntry};
 ghost use Rattle.arithmetic_matrices.specs.Kernels.{blockRow};
@@ -152,6 +153,7 @@ pub fn kron_sum_into(m: usize, a: &[f32], p: usize, b: &[f32], out: &mut [f32])
 // The Kronecker product of a, m by n, and b, p by q: out, m * p by n * q, is written where the call is not refused.
 pub fn kron(m: usize, n: usize, a: &[f32], p: usize, q: usize, b: &[f32], out: &mut [f32]) -> Answer
     ensures { λ r. ⌜ OneOutput (kronOf binary32 m n (now (a .entry)) p q (now (b .entry)) (length (now (out .entry)))) (r .outcome) (now (out .entry)) (now (out .exit)) ⌝ }
+    ensures { λ r. ⌜ r .report ≡ reportAt (kronOf binary32 m n (now (a .entry)) p q (now (b .entry)) (length (now (out .entry)))) nothing ⌝ }
 {
     match ask_kron(m, n, a, p, q, b, out.len()) {
         Question::No(why) => refused(why),
@@ -173,6 +175,7 @@ pub fn kron_sum(
     out: &mut [f32],
 ) -> Answer
     ensures { λ r. ⌜ OneOutput (kronSum binary32 m n (now (a .entry)) p q (now (b .entry)) (length (now (out .entry)))) (r .outcome) (now (out .entry)) (now (out .exit)) ⌝ }
+    ensures { λ r. ⌜ r .report ≡ reportAt (kronSum binary32 m n (now (a .entry)) p q (now (b .entry)) (length (now (out .entry)))) nothing ⌝ }
 {
     match ask_kron_sum(m, n, a, p, q, b, out.len()) {
         Question::No(why) => refused(why),

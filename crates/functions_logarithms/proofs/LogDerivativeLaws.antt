@@ -6,20 +6,25 @@ use lib.Ieee.{Float, Format}
 use Rattle.arithmetic_matrices.specs.Product.{addMultipleM, differenceQuotientM}
 use Rattle.arithmetic_matrices.specs.Workspace.{Room, slot, store, member, Only}
 use Rattle.arithmetic_questions.specs.Result.{done, _>>=_, outcome, exit}
+use Rattle.arithmetic_questions.specs.Answers.{numbered, reported}
 use Rattle.arithmetic_questions.specs.Kernels.{Replaced, ReplacedBoth}
+use Rattle.arithmetic_questions.specs.Reports.{beside, reportAt}
 use Rattle.arithmetic_questions.specs.declared.answer.Outcome.{Outcome}
 use Rattle.arithmetic_questions.specs.declared.answer.Outcome.the-variants.{Done, Refused}
 use Rattle.arithmetic_questions.specs.declared.answer.Refusal.{Refusal}
+use Rattle.arithmetic_questions.specs.declared.answer.Report.{Report}
 use Rattle.arithmetic_questions.proofs.BothLaws.{call-done, both-refused, both-follows}
+use Rattle.arithmetic_questions.proofs.ReportLaws.{report-of, report-done, report-joined}
 use Rattle.arithmetic_matrices.proofs.Slots.{only-trans, only-more}
 use Rattle.arithmetic_matrices.proofs.States.{start, step-copy, step-accumulate, step-difference-quotient, step-call, held-at, member-among}
 use Rattle.functions_definitions.specs.Logarithm.{logarithm}
 use Rattle.functions_definitions.specs.Derivatives.{logStep, frechetLogM, secondLogarithm}
+use Rattle.functions_definitions.specs.Reports.{logReport, frechetLogReport}
 use Rattle.functions_logarithms.specs.Kernels.{QuotientPlaced}
 use Rattle.functions_logarithms.proofs.LogarithmLaws.{used}
 
 -- the slots that change
-abbrev pub moved : List ℕ
+abbrev moved : List ℕ
 moved = 0 ∷ 1 ∷ 2 ∷ 3 ∷ 5 ∷ 6 ∷ []
 
 module _ (f : Format) (n : ℕ) (w₀ : List Float) (r : Room n w₀) where
@@ -61,10 +66,18 @@ module _ (f : Format) (n : ℕ) (w₀ : List Float) (r : Room n w₀) where
           only = only-trans (shifted .2) (only-more (member-among (member moved) (0 ∷ 1 ∷ []) refl) (P .only));
         })
 
-    pub second-refused : (y : Refusal) → o ≡ Refused y → ReplacedBoth moved n (secondLogarithm f n (slot n w₀ 5) (slot n w₀ 4) (slot n w₀ 0)) (Refused y) w₀ w4
+    -- what it reports is the logarithm's
+    pub second-reported : (s : ℕ) (ρ : Report) (w5 : List Float) → o ≡ Done s → QuotientPlaced f n w4 w5 → ρ ≡ reportAt (logarithm f n (slot n w3 0)) (logReport f n (slot n w3 0))
+        → ρ ≡ reportAt (secondLogarithm f n (slot n w₀ 5) (slot n w₀ 4) (slot n w₀ 0)) (logReport f n (addMultipleM f n (logStep f) (slot n w₀ 4) (slot n w₀ 5)))
+    second-reported s ρ w5 eo P e =
+        report-of (logarithm f n (slot n w3 0)) (logReport f n (slot n w3 0)) ρ o s eo (R .outcome) e
+        ∙ ap (logReport f n) (shifted .0)
+        ∙ report-done (secondLogarithm f n (slot n w₀ 5) (slot n w₀ 4) (slot n w₀ 0)) (logReport f n (addMultipleM f n (logStep f) (slot n w₀ 4) (slot n w₀ 5))) 0 (second-done s w5 eo P .outcome)
+
+    pub second-refused : (y : Refusal) (q : Outcome) → o ≡ Refused y → reported q ≡ numbered y → ReplacedBoth moved n (secondLogarithm f n (slot n w₀ 5) (slot n w₀ 4) (slot n w₀ 0)) q w₀ w4
     unfolding secondLogarithm
-    second-refused y eo =
-        both-refused (logarithm f n (addMultipleM f n (logStep f) (slot n w₀ 4) (slot n w₀ 5))) _ moved n o y w₀ w4 (R .outcome ∙ ap (λ (a : List Float). outcome (logarithm f n a)) (shifted .0)) eo (shifted .2)
+    second-refused y q eo h =
+        both-refused (logarithm f n (addMultipleM f n (logStep f) (slot n w₀ 4) (slot n w₀ 5))) _ moved n o q y w₀ w4 (R .outcome ∙ ap (λ (a : List Float). outcome (logarithm f n a)) (shifted .0)) eo h (shifted .2)
 
   -- ---- both
 
@@ -83,7 +96,19 @@ module _ (f : Format) (n : ℕ) (w₀ : List Float) (r : Room n w₀) where
         let S′ : ReplacedBoth moved n (secondLogarithm f n (slot n w₀ 0) (slot n w₀ 4) (slot n w2 0)) p w2 w3 = rw (first .1, first .2) at S in
         both-follows (logarithm f n (slot n w₀ 0)) (secondLogarithm f n (slot n w₀ 0) (slot n w₀ 4)) (slot n w2 0) s n moved p w₀ w2 w3 x (first .3) S′
 
-    pub frechet-refused : (y : Refusal) → o ≡ Refused y → ReplacedBoth moved n (frechetLogM f n (slot n w₀ 0) (slot n w₀ 4)) (Refused y) w₀ w2
+    -- what both logarithms report, each by its contract, and then joined
+    pub frechet-reported : (s : ℕ) (p : Outcome) (w3 : List Float) (ρ₁ ρ₂ ρ ρ′ : Report) → o ≡ Done s → ReplacedBoth moved n (secondLogarithm f n (slot n w2 5) (slot n w2 4) (slot n w2 0)) p w2 w3
+        → ρ₁ ≡ reportAt (logarithm f n (slot n w1 0)) (logReport f n (slot n w1 0))
+        → ρ₂ ≡ reportAt (secondLogarithm f n (slot n w2 5) (slot n w2 4) (slot n w2 0)) (logReport f n (addMultipleM f n (logStep f) (slot n w2 4) (slot n w2 5))) → ρ ≡ beside ρ₁ ρ₂
+        → ρ′ ≡ reportAt (reported p) ρ → ρ′ ≡ reportAt (frechetLogM f n (slot n w₀ 0) (slot n w₀ 4)) (frechetLogReport f n (slot n w₀ 0) (slot n w₀ 4))
+    unfolding frechetLogReport
+    frechet-reported s p w3 ρ₁ ρ₂ ρ ρ′ eo S e₁ e₂ e e′ =
+        let x = secondLogarithm f n (slot n w2 5) (slot n w2 4) (slot n w2 0) in
+        let a : ρ₁ ≡ logReport f n (slot n w₀ 0) = report-of (logarithm f n (slot n w1 0)) (logReport f n (slot n w1 0)) ρ₁ o s eo (R .outcome) e₁ ∙ ap (logReport f n) (first .0) in
+        let b : ρ₂ ≡ reportAt x (logReport f n (addMultipleM f n (logStep f) (slot n w₀ 4) (slot n w₀ 0))) = e₂ ∙ (λ i. reportAt x (logReport f n (addMultipleM f n (logStep f) (first .1 i) (first .2 i)))) in
+        report-joined (frechetLogM f n (slot n w₀ 0) (slot n w₀ 4)) x (logReport f n (slot n w₀ 0)) (logReport f n (addMultipleM f n (logStep f) (slot n w₀ 4) (slot n w₀ 0))) ρ₁ ρ₂ ρ ρ′ p (S .outcome) (frechet-follows s p w3 eo S .outcome) a b e e′
+
+    pub frechet-refused : (y : Refusal) (q : Outcome) → o ≡ Refused y → reported q ≡ numbered y → ReplacedBoth moved n (frechetLogM f n (slot n w₀ 0) (slot n w₀ 4)) q w₀ w2
     unfolding frechetLogM
-    frechet-refused y eo =
-        both-refused (logarithm f n (slot n w₀ 0)) _ moved n o y w₀ w2 (R .outcome ∙ ap (λ (a : List Float). outcome (logarithm f n a)) (first .0)) eo (first .3)
+    frechet-refused y q eo h =
+        both-refused (logarithm f n (slot n w₀ 0)) _ moved n o q y w₀ w2 (R .outcome ∙ ap (λ (a : List Float). outcome (logarithm f n a)) (first .0)) eo h (first .3)

@@ -2,7 +2,7 @@
 use Prim.Native.Nat.{ℕ, suc, _+_, _≤_, _<_}
 use native.Mathlib.Omega.{arith}
 use native.Mathlib.Numerals.{add-one}
-use mathlib.Core.Path.{_≡_, refl, sym, ap, _∙_}
+use mathlib.Core.Path.{_≡_, refl, sym, ap, _∙_, subst}
 use mathlib.Core.Bool.{Bool, true, false, cond}
 use mathlib.Core.List.{List, [], _∷_}
 use lib.Ieee.{Float, Format, le, mul}
@@ -11,24 +11,32 @@ use Rattle.arithmetic_matrices.specs.Product.{mulM, timesM, addM, zeroM, minusI
 use Rattle.arithmetic_matrices.specs.Norm.{frobenius}
 use Rattle.arithmetic_matrices.specs.Workspace.{Room, slot, store, member, Only}
 use Rattle.arithmetic_questions.specs.Result.{Result, done, refused, _>>=_, outcome, exit}
+use Rattle.arithmetic_questions.specs.Answers.{numbered, reported}
 use Rattle.arithmetic_questions.specs.Kernels.{Replaced}
+use Rattle.arithmetic_questions.specs.Reports.{nothing, beside}
+use Rattle.arithmetic_questions.specs.declared.answer.Outcome.{Outcome}
 use Rattle.arithmetic_questions.specs.declared.answer.Outcome.the-variants as outcomes
+use Rattle.arithmetic_questions.specs.declared.answer.Report.{Report}
 use Rattle.arithmetic_questions.specs.declared.answer.Refusal.the-variants.{NotConverged}
 use Rattle.arithmetic_matrices.proofs.MatrixLaws.{square-le}
 use Rattle.arithmetic_matrices.proofs.ProductLaws.{length-timesM}
 use Rattle.arithmetic_matrices.proofs.Slots.{only-refl, only-trans, only-more, slot-only, length-slot}
 use Rattle.arithmetic_matrices.proofs.States.{start, step-mult, step-copy, step-copy-in, step-call, step-times, step-add, step-zero, step-minus-identity, held-at, member-among}
-use Rattle.functions_definitions.specs.Iterate.{Step, running, stopped, after, verdict, ended}
+use Rattle.functions_definitions.specs.Iterate.{Step, running, stopped, after, verdict, gathered, ended}
 use Rattle.functions_definitions.specs.Roots.{newtonRoot}
 use Rattle.functions_definitions.specs.Logarithm.{isFar, rootLimit, Rooted, rooted, rootingStep, rooting, furtherTerms, Series, seriesStep, seriesCoefficient, series, nearLogarithm, logarithm}
-use Rattle.functions_roots.specs.Kernels.{asStep, tested, answered, OnePass, Passes, NewtonRoot}
-use Rattle.functions_logarithms.specs.Kernels.{rootedAs, asRooting, RootingPass, asTaken, RootsTaken, seriesIn, TermsAdded, SeriesSummed, LogarithmNear}
+use Rattle.functions_definitions.specs.Reports.{newtonReport, rootingReport, logReport}
+use Rattle.functions_roots.specs.Kernels.{asStep, tested, answered, OnePass, Passes}
+use Rattle.functions_logarithms.specs.Kernels.{ReportedNewton, rootedAs, asRooting, RootingPass, asTaken, RootsTaken, seriesIn, TermsAdded, SeriesSummed, LogarithmNear}
 use Rattle.functions_roots.specs.declared.pass.Pass.{Pass}
+use Rattle.functions_roots.specs.declared.pass.Passed.{Passed}
 use Rattle.functions_roots.specs.declared.pass.Pass.the-variants.{Running, Stopped, Failed}
 use Rattle.functions_logarithms.specs.declared.logarithm.Roots.{Roots}
+use Rattle.functions_logarithms.specs.declared.logarithm.TakenRoots.{TakenRoots}
 use Rattle.functions_logarithms.specs.declared.logarithm.Roots.the-variants.{Taken, Refused}
 use Rattle.functions_definitions.proofs.IterateLaws.{goes-on, stops, fails, runs-out}
-use Rattle.functions_roots.proofs.PassLaws.{step-tested, answers-ended, fails-ended}
+use Rattle.functions_definitions.proofs.GatheredLaws.{reporting-more, reporting-stops, reporting-out}
+use Rattle.functions_roots.proofs.PassLaws.{step-tested, answers-ended, fails-ended, silent}
 
 -- the slots that the logarithm changes, and those of the series
 abbrev pub used : List ℕ
@@ -40,87 +48,108 @@ summing = 1 ∷ 2 ∷ 3 ∷ []
 -- ---- a pass of the rooting
 
 module _ (f : Format) (n : ℕ) (w₀ : List Float) (r : Room n w₀) where
-  pub near-stopped : isFar f n (slot n w₀ 0) ≡ false → RootingPass f n Stopped w₀ w₀
+  -- the report of a pass goes by the test
+  reported-as : (b : Bool) → isFar f n (slot n w₀ 0) ≡ b → cond b (newtonReport f n (slot n w₀ 0)) nothing ≡ rootingReport f n (slot n w₀ 0)
+  unfolding rootingReport
+  reported-as b h = ap (λ (z : Bool). cond z (newtonReport f n (slot n w₀ 0)) nothing) (sym h)
+
+  pub near-stopped : (ρ : Report) → isFar f n (slot n w₀ 0) ≡ false → ρ ≡ nothing → RootingPass f n (record { pass = Stopped; report = ρ }) w₀ w₀
   unfolding rootingStep
-  near-stopped h = record {
+  near-stopped ρ h e = record {
     step = λ k. ap (λ (b : Bool). cond b (rooted k (newtonRoot f n (slot n w₀ 0))) (stopped (rootedAs (slot n w₀ 0) k))) (sym h);
+    reports = λ _. e ∙ reported-as false h;
     only = only-refl (member used) w₀;
   }
 
-  module _ (w1 : List Float) (p : Pass) (far : isFar f n (slot n w₀ 0) ≡ true) (N : NewtonRoot f n p w₀ w1) where
+  module _ (w1 : List Float) (p : Passed) (far : isFar f n (slot n w₀ 0) ≡ true) (N : ReportedNewton f n p w₀ w1) where
     -- the step is what the root gives
-    rooted-as : (k : ℕ) → rooted k (ended (asStep p (slot n w1 1))) ≡ rootingStep f n (rootedAs (slot n w₀ 0) k)
+    rooted-as : (k : ℕ) → rooted k (ended (asStep (p .pass) (slot n w1 1))) ≡ rootingStep f n (rootedAs (slot n w₀ 0) k)
     unfolding rootingStep newtonRoot
     rooted-as k =
-        ap (λ (z : Step (List Float)). rooted k (ended z)) (N .step)
+        ap (λ (z : Step (List Float)). rooted k (ended z)) (N .root .step)
         ∙ ap (λ (b : Bool). cond b (rooted k (newtonRoot f n (slot n w₀ 0))) (stopped (rootedAs (slot n w₀ 0) k))) (sym far)
 
     wide : Only (member used) w₀ w1
-    wide = only-more (member-among (member used) summing refl) (N .only)
+    wide = only-more (member-among (member used) summing refl) (N .root .only)
 
-    pub far-failed : answered p ≡ false → RootingPass f n Failed w₀ w1
-    far-failed e = record { step = λ k. ap (rooted k) (fails-ended p (slot n w1 1) e) ∙ rooted-as k; only = wide }
+    pub far-failed : (ρ : Report) → answered (p .pass) ≡ false → RootingPass f n (record { pass = Failed; report = ρ }) w₀ w1
+    far-failed ρ e = record { step = λ k. ap (rooted k) (fails-ended (p .pass) (slot n w1 1) e) ∙ rooted-as k; reports = silent refl; only = wide }
 
-    pub far-rooted : (w2 : List Float) → answered p ≡ true → w2 ≡ store w1 0 (slot n w1 1) → RootingPass f n Running w₀ w2
+    pub far-rooted : (w2 : List Float) → answered (p .pass) ≡ true → w2 ≡ store w1 0 (slot n w1 1) → RootingPass f n (record { pass = Running; report = p .report }) w₀ w2
     far-rooted w2 e e2 =
-        let s1 = step-call summing (start (member used) n r) (N .only) (member-among (member used) summing refl) in
+        let s1 = step-call summing (start (member used) n r) (N .root .only) (member-among (member used) summing refl) in
         let s2 = step-copy-in n (r .order) 0 (slot n w1 1) s1 e2 (length-slot n w1 1) refl refl in
         record {
-          step = λ k. ap (λ (x : List Float). running (rootedAs x (suc k))) (held-at 0 n s2 refl) ∙ ap (rooted k) (answers-ended p (slot n w1 1) e) ∙ rooted-as k;
+          step = λ k. ap (λ (x : List Float). running (rootedAs x (suc k))) (held-at 0 n s2 refl) ∙ ap (rooted k) (answers-ended (p .pass) (slot n w1 1) e) ∙ rooted-as k;
+          reports = λ _. N .reports e ∙ reported-as true far;
           only = s2 .only;
         }
 
 -- ---- all roots
 
--- k roots are taken, and the rooting goes on
-pub record Rooting (f : Format) (n : ℕ) (w₀ w : List Float) (k : ℕ) : Type 0 where
+-- what the pass from this state reports
+abbrev reportOf : Format → ℕ → Rooted → Report
+reportOf f n r = rootingReport f n (r .work)
+
+-- k roots are taken, the rooting goes on, and ρ is what they report
+pub record Rooting (f : Format) (n : ℕ) (w₀ w : List Float) (ρ : Report) (k : ℕ) : Type 0 where
   pub within : k ≤ rootLimit
   pub state : rooting f n (slot n w₀ 0) k ≡ running (rootedAs (slot n w 0) k)
+  pub report : ρ ≡ gathered beside nothing (reportOf f n) (rooting f n (slot n w₀ 0)) k
   pub only : Only (member used) w₀ w
 
-pub rooting-start : {f : Format} {n : ℕ} {w₀ : List Float} → Rooting f n w₀ w₀ 0
-unfolding rooting after
-rooting-start {w₀ = w₀} = record { within = omega arith; state = refl; only = only-refl (member used) w₀ }
+pub rooting-start : {f : Format} {n : ℕ} {w₀ : List Float} {ρ : Report} → ρ ≡ nothing → Rooting f n w₀ w₀ ρ 0
+unfolding rooting after gathered
+rooting-start {w₀ = w₀} e = record { within = omega arith; state = refl; report = e; only = only-refl (member used) w₀ }
 
-module _ {f : Format} {n : ℕ} {w₀ w : List Float} {k : ℕ} (H : Rooting f n w₀ w k) where
-  module _ {w′ : List Float} {p : Pass} (h : k < rootLimit) (P : RootingPass f n p w w′) where
-    told : (q : Pass) → p ≡ q → rootingStep f n (rootedAs (slot n w 0) k) ≡ asRooting q (slot n w′ 0) k
+-- false of a refusal
+abbrev IsTaken : Roots → Type 0
+IsTaken (Taken k) = Unit {0}
+IsTaken Refused = ⊥
+
+module _ {f : Format} {n : ℕ} {w₀ w : List Float} {ρ : Report} {k : ℕ} (H : Rooting f n w₀ w ρ k) where
+  module _ {w′ : List Float} {p : Passed} {ρ′ : Report} (h : k < rootLimit) (P : RootingPass f n p w w′) (B : ρ′ ≡ beside ρ (p .report)) where
+    told : (q : Pass) → p .pass ≡ q → rootingStep f n (rootedAs (slot n w 0) k) ≡ asRooting q (slot n w′ 0) k
     told q e = sym (P .step k) ∙ ap (λ (z : Pass). asRooting z (slot n w′ 0) k) e
 
     changed : Only (member used) w₀ w′
     changed = only-trans (H .only) (P .only)
 
-    pub rooting-more : p ≡ Running → Rooting f n w₀ w′ (k + 1)
+    pub rooting-more : p .pass ≡ Running → Rooting f n w₀ w′ ρ′ (k + 1)
     unfolding rooting
     rooting-more e = record {
       within = omega arith;
       state =
           goes-on (λ _. rootingStep f n) (rootedAs (slot n w₀ 0) 0) (rootedAs (slot n w 0) k) k (H .state) (rootedAs (slot n w′ 0) (suc k)) (told Running e)
           ∙ ap (λ (m : ℕ). running (rootedAs (slot n w′ 0) m)) (sym (add-one k));
+      report = reporting-more (reportOf f n) (λ _. rootingStep f n) (rootedAs (slot n w₀ 0) 0) k (rootedAs (slot n w 0) k) (H .state) ρ (p .report) ρ′ (H .report) (P .reports (ap answered e)) B;
       only = changed;
     }
 
-    pub rooting-stops : p ≡ Stopped → RootsTaken f n (Taken k) w₀ w′
-    unfolding rooting
+    pub rooting-stops : p .pass ≡ Stopped → RootsTaken f n (record { roots = Taken k; report = ρ′ }) w₀ w′
+    unfolding rooting logReport
     rooting-stops e = record {
       taken = sym (ap ended (stops (λ _. rootingStep f n) (rootedAs (slot n w₀ 0) 0) (rootedAs (slot n w 0) k) k (H .state) (rootedAs (slot n w′ 0) k) rootLimit h (told Stopped e)));
       few = omega arith;
+      reports = λ _ _. reporting-stops (reportOf f n) (λ _. rootingStep f n) (rootedAs (slot n w₀ 0) 0) k (rootedAs (slot n w 0) k) (H .state) ρ (p .report) ρ′ (H .report) (P .reports (ap answered e)) B rootLimit (rootedAs (slot n w′ 0) k) h (told Stopped e);
       only = changed;
     }
 
-    pub rooting-fails : p ≡ Failed → RootsTaken f n Refused w₀ w′
+    pub rooting-fails : p .pass ≡ Failed → RootsTaken f n (record { roots = Refused; report = ρ′ }) w₀ w′
     unfolding rooting
     rooting-fails e = record {
       taken = sym (ap ended (fails (λ _. rootingStep f n) (rootedAs (slot n w₀ 0) 0) (rootedAs (slot n w 0) k) k (H .state) rootLimit h (told Failed e)));
       few = omega arith;
+      reports = λ j t. absurd (subst IsTaken (sym t) tt);
       only = changed;
     }
 
-  pub rooting-out : rootLimit ≤ k → RootsTaken f n (Taken k) w₀ w
-  unfolding rooting
+  pub rooting-out : rootLimit ≤ k → RootsTaken f n (record { roots = Taken k; report = ρ }) w₀ w
+  unfolding rooting logReport
   rooting-out l = record {
     taken = sym (ap ended (runs-out (λ _. rootingStep f n) (rootedAs (slot n w₀ 0) 0) (rootedAs (slot n w 0) k) k (H .state) rootLimit (H .within) l));
     few = H .within;
+    reports = λ _ _. reporting-out (reportOf f n) (λ _. rootingStep f n) (rootedAs (slot n w₀ 0) 0) k rootLimit ρ (H .report) (H .within) l;
     only = H .only;
   }
 
@@ -184,19 +213,19 @@ module _ (f : Format) (n : ℕ) (w₀ : List Float) (r : Room n w₀) where
         only = s4 .only;
       }
 
-  module _ (w1 : List Float) (o : Roots) (R : RootsTaken f n o w₀ w1) where
-    pub logarithm-done : (k : ℕ) (w2 : List Float) → o ≡ Taken k → LogarithmNear f n k w1 w2 → Replaced used n (logarithm f n (slot n w₀ 0)) (outcomes.Done 0) w₀ w2
+  module _ (w1 : List Float) (t : TakenRoots) (R : RootsTaken f n t w₀ w1) where
+    pub logarithm-done : (k : ℕ) (w2 : List Float) → t .roots ≡ Taken k → LogarithmNear f n k w1 w2 → Replaced used n (logarithm f n (slot n w₀ 0)) (outcomes.Done 0) w₀ w2
     unfolding logarithm _>>=_ outcome exit
     logarithm-done k w2 e L =
-        let t : done 0 (rootedAs (slot n w1 0) k) ≡ ended (rooting f n (slot n w₀ 0) rootLimit) = ap (λ (z : Roots). asTaken z (slot n w1 0)) (sym e) ∙ R .taken in
+        let q : done 0 (rootedAs (slot n w1 0) k) ≡ ended (rooting f n (slot n w₀ 0) rootLimit) = ap (λ (z : Roots). asTaken z (slot n w1 0)) (sym e) ∙ R .taken in
         let x : done 0 (slot n w2 0) ≡ logarithm f n (slot n w₀ 0) =
-        L .result ∙ ap (λ (z : Result Rooted). z >>= λ v. nearLogarithm f n (v .roots) (v .work)) t in
+        L .result ∙ ap (λ (z : Result Rooted). z >>= λ v. nearLogarithm f n (v .roots) (v .work)) q in
         record { outcome = ap outcome x; result = ap (λ (z : Result (List Float)). exit (λ v. v) z (slot n w2 0)) x; only = only-trans (R .only) (L .only) }
 
-    pub logarithm-refused : o ≡ Refused → Replaced used n (logarithm f n (slot n w₀ 0)) (outcomes.Refused NotConverged) w₀ w1
+    pub logarithm-refused : (o : Outcome) → t .roots ≡ Refused → reported o ≡ numbered NotConverged → Replaced used n (logarithm f n (slot n w₀ 0)) o w₀ w1
     unfolding logarithm _>>=_ outcome exit
-    logarithm-refused e =
-        let t : refused 13 0 0 ≡ ended (rooting f n (slot n w₀ 0) rootLimit) = ap (λ (z : Roots). asTaken z (slot n w1 0)) (sym e) ∙ R .taken in
+    logarithm-refused o e h =
+        let q : refused 13 0 0 ≡ ended (rooting f n (slot n w₀ 0) rootLimit) = ap (λ (z : Roots). asTaken z (slot n w1 0)) (sym e) ∙ R .taken in
         let x : refused 13 0 0 ≡ logarithm f n (slot n w₀ 0) =
-        ap (λ (z : Result Rooted). z >>= λ v. nearLogarithm f n (v .roots) (v .work)) t in
-        record { outcome = ap outcome x; result = ap (λ (z : Result (List Float)). exit (λ v. v) z (slot n w1 0)) x; only = R .only }
+        ap (λ (z : Result Rooted). z >>= λ v. nearLogarithm f n (v .roots) (v .work)) q in
+        record { outcome = h ∙ ap outcome x; result = ap (λ (z : Result (List Float)). exit (λ v. v) z (slot n w1 0)) x; only = R .only }

@@ -13,18 +13,25 @@ use Rattle.arithmetic_floats.proofs.Constants.{one-bits, epsilon-bits}
 use Rattle.arithmetic_matrices.specs.Product.{meanM, diagonalM}
 use Rattle.arithmetic_matrices.specs.Norm.{normOfDifference, trace}
 use Rattle.arithmetic_matrices.specs.Workspace.{Room, slot, store, member, Only}
+use Rattle.arithmetic_questions.specs.Reports.{factored}
+use Rattle.arithmetic_questions.specs.declared.answer.Report.{Report}
 use Rattle.arithmetic_matrices.proofs.MatrixLaws.{square-le}
 use Rattle.arithmetic_matrices.proofs.Slots.{slot-only, only-trans, only-more}
 use Rattle.arithmetic_matrices.proofs.States.{start, step-mean, step-copy, step-call, step-diagonal, held-at, member-among}
 use Rattle.lu_factoring.specs.declared.LuOutcome.{LuOutcome}
 use Rattle.lu_factoring.specs.declared.LuOutcome.the-variants.{Factored, Singular}
+use Rattle.lu_factoring.specs.Pivots.{smallestPivot}
 use Rattle.lu_factoring.specs.Solve.{division, whereFactored}
 use Rattle.functions_definitions.specs.Iterate.{after, verdict}
+use Rattle.functions_definitions.specs.Reports.{luReport, newtonReport}
 use Rattle.functions_definitions.specs.Roots.{rootTolerance, passLimit, newtonNext, newtonStep, newtonScale, newtonStart, newton}
-use Rattle.functions_roots.specs.Kernels.{asStep, tested, OnePass, Passes, SlotQuotient, NewtonMean, NewtonRoot}
+use Rattle.functions_definitions.proofs.GatheredLaws.{gives}
+use Rattle.functions_roots.specs.Kernels.{asStep, tested, ReportedPass, ReportedPasses, SlotQuotient, NewtonMean}
 use Rattle.functions_roots.specs.declared.pass.Pass.{Pass}
+use Rattle.functions_roots.specs.declared.pass.Passed.{Passed}
 use Rattle.functions_roots.specs.declared.pass.Pass.the-variants.{Failed}
-use Rattle.functions_roots.proofs.PassLaws.{step-tested}
+use Rattle.functions_roots.proofs.PassLaws.{step-tested, silent}
+use Rattle.functions_logarithms.specs.Kernels.{ReportedNewton}
 
 -- the slots that a pass changes, and where x stands
 abbrev pub used : List ℕ
@@ -49,39 +56,52 @@ module _ (f : Format) (n : ℕ) (w₀ : List Float) (r : Room n w₀) where
       }
 
   module _ (w1 w2 w3 : List Float) (o : LuOutcome) (e1 : w1 ≡ store w₀ 2 (slot n w₀ 1)) (e2 : w2 ≡ store w1 3 (slot n w1 0)) (Q : SlotQuotient f n 3 o w2 w3) where
-    -- once the system is solved: x is as it was, and slot 3 holds y
-    solved : (slot n w3 1 ≡ slot n w₀ 1) × (whereFactored o (slot n w3 3) ≡ division f n (slot n w₀ 1) (slot n w₀ 0)) × Only (member used) w₀ w3
+    -- x is factored; once the system is solved x is as it was, and slot 3 holds y
+    solved : (slot n w2 2 ≡ slot n w₀ 1) × (slot n w3 1 ≡ slot n w₀ 1) × (whereFactored o (slot n w3 3) ≡ division f n (slot n w₀ 1) (slot n w₀ 0)) × Only (member used) w₀ w3
     solved =
         let s1 = step-copy n (r .order) 1 2 (start (member used) n r) e1 refl refl refl in
         let s2 = step-copy n (r .order) 0 3 s1 e2 refl refl refl in
         let s3 = step-call (2 ∷ 3 ∷ []) s2 (Q .only) (member-among (member used) (2 ∷ 3 ∷ []) refl) in
-        (held-at 1 n s3 refl, Q .result ∙ (λ i. division f n (held-at 2 n s2 refl i) (held-at 3 n s2 refl i)), s3 .only)
+        (held-at 2 n s2 refl, held-at 1 n s3 refl, Q .result ∙ (λ i. division f n (held-at 2 n s2 refl i) (held-at 3 n s2 refl i)), s3 .only)
 
-    pub newton-passed : (w4 : List Float) (p : Pass) → o ≡ Factored → NewtonMean f n p w3 w4 → OnePass (newtonStep f n (slot n w₀ 0)) (root n) used p w₀ w4
-    unfolding newtonStep
-    newton-passed w4 p eo M =
-        let q : some (slot n w3 3) ≡ division f n (slot n w₀ 1) (slot n w₀ 0) = ap (λ (z : LuOutcome). whereFactored z (slot n w3 3)) (sym eo) ∙ solved .1 in
+    -- v is the smallest pivot
+    pub newton-passed : (w4 : List Float) (p : Pass) (v : Float) (ρ : Report) → o ≡ Factored → NewtonMean f n p w3 w4 → v ≡ smallestPivot f n (slot n w2 2) → ρ ≡ factored v
+        → ReportedPass (newtonStep f n (slot n w₀ 0)) (luReport f n) (root n) used (record { pass = p; report = ρ }) w₀ w4
+    unfolding newtonStep luReport
+    newton-passed w4 p v ρ eo M ev e =
+        let q : some (slot n w3 3) ≡ division f n (slot n w₀ 1) (slot n w₀ 0) = ap (λ (z : LuOutcome). whereFactored z (slot n w3 3)) (sym eo) ∙ solved .2 in
         record {
-          step = M .step ∙ (λ i. newtonNext f n (solved .0 i) (q i));
-          only = only-trans (solved .2) (only-more (member-among (member used) (1 ∷ 2 ∷ []) refl) (M .only));
+          passed = record {
+            step = M .step ∙ (λ i. newtonNext f n (solved .1 i) (q i));
+            only = only-trans (solved .3) (only-more (member-among (member used) (1 ∷ 2 ∷ []) refl) (M .only));
+          };
+          reports = λ _. e ∙ ap factored (ev ∙ ap (smallestPivot f n) (solved .0));
         }
 
-    pub newton-failed : (k : ℕ) → o ≡ Singular k → OnePass (newtonStep f n (slot n w₀ 0)) (root n) used Failed w₀ w3
+    pub newton-failed : (k : ℕ) (ρ : Report) → o ≡ Singular k → ReportedPass (newtonStep f n (slot n w₀ 0)) (luReport f n) (root n) used (record { pass = Failed; report = ρ }) w₀ w3
     unfolding newtonStep newtonNext
-    newton-failed k eo =
-        let q : none ≡ division f n (slot n w₀ 1) (slot n w₀ 0) = ap (λ (z : LuOutcome). whereFactored z (slot n w3 3)) (sym eo) ∙ solved .1 in
-        record { step = ap (newtonNext f n (slot n w₀ 1)) q; only = solved .2 }
+    newton-failed k ρ eo =
+        let q : none ≡ division f n (slot n w₀ 1) (slot n w₀ 0) = ap (λ (z : LuOutcome). whereFactored z (slot n w3 3)) (sym eo) ∙ solved .2 in
+        record { passed = record { step = ap (newtonNext f n (slot n w₀ 1)) q; only = solved .3 }; reports = silent refl }
 
   -- a pass on the way is a step for the matrix with which the passes began
-  pub newton-same : (w w′ : List Float) (p : Pass) → Only (member used) w₀ w → OnePass (newtonStep f n (slot n w 0)) (root n) used p w w′ → OnePass (newtonStep f n (slot n w₀ 0)) (root n) used p w w′
+  pub newton-same : (w w′ : List Float) (p : Passed) → Only (member used) w₀ w → ReportedPass (newtonStep f n (slot n w 0)) (luReport f n) (root n) used p w w′
+      → ReportedPass (newtonStep f n (slot n w₀ 0)) (luReport f n) (root n) used p w w′
   newton-same w w′ p o P = rw (slot-only n (member used) w₀ w 0 1 o (omega (arith, square-le n (r .order))) refl) at P
 
-  pub newton-all : (w1 w2 : List Float) (d : Float) (p : Pass) → d ≡ newtonScale f n (slot n w₀ 0) → w1 ≡ store w₀ 1 (diagonalM n d) → Passes (λ _. newtonStep f n (slot n w1 0)) passLimit (root n) used p w1 w2 → NewtonRoot f n p w₀ w2
-  unfolding newton newtonStart
+  pub newton-all : (w1 w2 : List Float) (d : Float) (p : Passed) → d ≡ newtonScale f n (slot n w₀ 0) → w1 ≡ store w₀ 1 (diagonalM n d)
+      → ReportedPasses (λ _. newtonStep f n (slot n w1 0)) (luReport f n) passLimit (root n) used p w1 w2 → ReportedNewton f n p w₀ w2
+  unfolding newton newtonStart newtonReport
   newton-all w1 w2 d p ed e1 P =
       let s1 = step-diagonal n (r .order) d 1 (start (member used) n r) e1 refl refl in
       let x : slot n w1 1 ≡ diagonalM n (newtonScale f n (slot n w₀ 0)) = held-at 1 n s1 refl ∙ ap (diagonalM n) ed in
-      record { step = P .step ∙ (λ i. after (λ _. newtonStep f n (held-at 0 n s1 refl i)) (x i) passLimit); only = only-trans (s1 .only) (P .only) }
+      record {
+        root = record {
+          step = P .passed .step ∙ (λ i. after (λ _. newtonStep f n (held-at 0 n s1 refl i)) (x i) passLimit);
+          only = only-trans (s1 .only) (P .passed .only);
+        };
+        reports = λ e. P .reports e ∙ (λ i. gives (luReport f n) (λ _. newtonStep f n (held-at 0 n s1 refl i)) (x i) passLimit);
+      }
 
 -- ---- the start's scale, by the test that the code makes
 

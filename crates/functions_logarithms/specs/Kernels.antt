@@ -9,12 +9,21 @@ use Rattle.arithmetic_matrices.specs.Workspace.{slot, member, Only}
 use Rattle.functions_definitions.specs.Iterate.{Step, running, stopped, failed, after, ended}
 use Rattle.functions_definitions.specs.Logarithm.{rootLimit, Rooted, rootingStep, rooting, furtherTerms, Series, seriesStep, series, nearLogarithm}
 use Rattle.functions_roots.specs.declared.pass.Pass.{Pass}
+use Rattle.functions_roots.specs.declared.pass.Passed.{Passed}
 use Rattle.functions_roots.specs.declared.pass.Pass.the-variants.{Running, Stopped, Failed}
+use Rattle.functions_roots.specs.Kernels.{NewtonRoot, Reports}
 use Rattle.functions_logarithms.specs.declared.logarithm.Roots.{Roots}
+use Rattle.functions_logarithms.specs.declared.logarithm.TakenRoots.{TakenRoots}
 use Rattle.functions_logarithms.specs.declared.logarithm.Roots.the-variants.{Taken, Refused}
 use Rattle.functions_definitions.specs.Derivatives.{logStep}
+use Rattle.functions_definitions.specs.Reports.{newtonReport, rootingReport, logReport}
 
 -- ---- the square roots: the matrix stands in slot 0, and slots 1 to 3 are scratch
+
+-- one root, by Newton's iteration, and what its passes report
+pub record ReportedNewton (f : Format) (n : ℕ) (r : Passed) (w w′ : List Float) : Type 0 where
+  pub root : NewtonRoot f n (r .pass) w w′
+  pub reports : Reports r (newtonReport f n (slot n w 0))
 
 -- the matrix x, after k roots
 abbrev pub rootedAs : List Float → ℕ → Rooted
@@ -27,8 +36,9 @@ asRooting Stopped x k = stopped (rootedAs x k)
 asRooting Failed x k = failed
 
 -- one pass: a root, or none where the matrix is near I
-pub record RootingPass (f : Format) (n : ℕ) (r : Pass) (w w′ : List Float) : Type 0 where
-  pub step : (k : ℕ) → asRooting r (slot n w′ 0) k ≡ rootingStep f n (rootedAs (slot n w 0) k)
+pub record RootingPass (f : Format) (n : ℕ) (r : Passed) (w w′ : List Float) : Type 0 where
+  pub step : (k : ℕ) → asRooting (r .pass) (slot n w′ 0) k ≡ rootingStep f n (rootedAs (slot n w 0) k)
+  pub reports : Reports r (rootingReport f n (slot n w 0))
   pub only : Only (member (0 ∷ 1 ∷ 2 ∷ 3 ∷ [])) w w′
 
 -- what the passes answer, x being the matrix that they leave
@@ -42,9 +52,10 @@ countOf (Taken k) = k
 countOf Refused = 0
 
 -- all passes
-pub record RootsTaken (f : Format) (n : ℕ) (r : Roots) (w w′ : List Float) : Type 0 where
-  pub taken : asTaken r (slot n w′ 0) ≡ ended (rooting f n (slot n w 0) rootLimit)
-  pub few : countOf r ≤ rootLimit
+pub record RootsTaken (f : Format) (n : ℕ) (r : TakenRoots) (w w′ : List Float) : Type 0 where
+  pub taken : asTaken (r .roots) (slot n w′ 0) ≡ ended (rooting f n (slot n w 0) rootLimit)
+  pub few : countOf (r .roots) ≤ rootLimit
+  pub reports : (k : ℕ) → r .roots ≡ Taken k → r .report ≡ logReport f n (slot n w 0)
   pub only : Only (member (0 ∷ 1 ∷ 2 ∷ 3 ∷ [])) w w′
 
 -- ---- the series: X stands in slot 0, a power of it in slot 1, the sum in slot 2, a term in slot 3

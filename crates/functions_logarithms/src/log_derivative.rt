@@ -3,16 +3,23 @@
 ghost use mathlib.Core.Path.{_≡_};
 ghost use mathlib.Core.List.{[], _∷_};
 ghost use lib.Ieee.{binary64};
+ghost use Rattle.arithmetic_matrices.specs.Product.{addMultipleM};
 ghost use Rattle.arithmetic_matrices.specs.Workspace.{Room, slot};
 ghost use Rattle.arithmetic_questions.specs.Kernels.{ReplacedBoth};
+ghost use Rattle.arithmetic_questions.specs.Reports.{reportAt};
 ghost use Rattle.functions_definitions.specs.Derivatives.{logStep, secondLogarithm, frechetLogM};
+ghost use Rattle.functions_definitions.specs.Reports.{logReport, frechetLogReport};
 ghost use Rattle.functions_logarithms.specs.Kernels.{QuotientPlaced};
 use crate::logarithm::logm_in;
 use arithmetic_floats::root::sqrt;
 use arithmetic_matrices::workspace::accumulate;
 use arithmetic_matrices::workspace::copy;
 use arithmetic_matrices::workspace::difference_quotient;
+use arithmetic_questions::answer::Answer;
 use arithmetic_questions::answer::Outcome;
+use arithmetic_questions::answer::answering;
+use arithmetic_questions::answer::beside;
+use arithmetic_questions::answer::refused;
 
 // The step of the difference quotient: the root of 2^-52.
 fn log_step() -> f64
@@ -32,32 +39,44 @@ fn place_quotient(w: &mut [f64], n: usize)
 }
 
 // The second logarithm, of the matrix moved a step in the direction. The first stands in slot 0.
-fn second_logarithm(w: &mut [f64], n: usize) -> Outcome
+fn second_logarithm(w: &mut [f64], n: usize) -> Answer
     requires { ⌜ Room n (now w) ⌝ }
-    ensures { λ r. ⌜ ReplacedBoth (0 ∷ 1 ∷ 2 ∷ 3 ∷ 5 ∷ 6 ∷ []) n (secondLogarithm binary64 n (slot n (now (w .entry)) 5) (slot n (now (w .entry)) 4) (slot n (now (w .entry)) 0)) r (now (w .entry)) (now (w .exit)) ⌝ }
+    ensures { λ r. ⌜ ReplacedBoth (0 ∷ 1 ∷ 2 ∷ 3 ∷ 5 ∷ 6 ∷ []) n (secondLogarithm binary64 n (slot n (now (w .entry)) 5) (slot n (now (w .entry)) 4) (slot n (now (w .entry)) 0)) (r .outcome) (now (w .entry)) (now (w .exit)) ⌝ }
+    ensures { λ r. ⌜ r .report ≡ reportAt (secondLogarithm binary64 n (slot n (now (w .entry)) 5) (slot n (now (w .entry)) 4) (slot n (now (w .entry)) 0)) (logReport binary64 n (addMultipleM binary64 n (logStep binary64) (slot n (now (w .entry)) 4) (slot n (now (w .entry)) 5))) ⌝ }
 {
     copy(w, 0, 6, n);
     accumulate(w, 5, 4, log_step(), n);
     copy(w, 5, 0, n);
-    let outcome = logm_in(w, n);
+    let answer = logm_in(w, n);
+    let outcome = answer.outcome;
     match outcome {
         Outcome::Done { halvings: _ } => {
             place_quotient(w, n);
-            Outcome::Done { halvings: 0 }
+            let report = answer.report;
+            Answer {
+                outcome: Outcome::Done { halvings: 0 },
+                report,
+            }
         }
-        Outcome::Refused(why) => Outcome::Refused(why),
+        Outcome::Refused(why) => refused(why),
     }
 }
 
 // The logarithm goes to slot 0, and its derivative in the direction of slot 4 to slot 1.
-pub fn frechet_logm_in(w: &mut [f64], n: usize) -> Outcome
+pub fn frechet_logm_in(w: &mut [f64], n: usize) -> Answer
     requires { ⌜ Room n (now w) ⌝ }
-    ensures { λ r. ⌜ ReplacedBoth (0 ∷ 1 ∷ 2 ∷ 3 ∷ 5 ∷ 6 ∷ []) n (frechetLogM binary64 n (slot n (now (w .entry)) 0) (slot n (now (w .entry)) 4)) r (now (w .entry)) (now (w .exit)) ⌝ }
+    ensures { λ r. ⌜ ReplacedBoth (0 ∷ 1 ∷ 2 ∷ 3 ∷ 5 ∷ 6 ∷ []) n (frechetLogM binary64 n (slot n (now (w .entry)) 0) (slot n (now (w .entry)) 4)) (r .outcome) (now (w .entry)) (now (w .exit)) ⌝ }
+    ensures { λ r. ⌜ r .report ≡ reportAt (frechetLogM binary64 n (slot n (now (w .entry)) 0) (slot n (now (w .entry)) 4)) (frechetLogReport binary64 n (slot n (now (w .entry)) 0) (slot n (now (w .entry)) 4)) ⌝ }
 {
     copy(w, 0, 5, n);
-    let outcome = logm_in(w, n);
+    let answer = logm_in(w, n);
+    let outcome = answer.outcome;
     match outcome {
-        Outcome::Done { halvings: _ } => second_logarithm(w, n),
-        Outcome::Refused(why) => Outcome::Refused(why),
+        Outcome::Done { halvings: _ } => {
+            let second = second_logarithm(w, n);
+            let end = second.outcome;
+            answering(end, beside(answer.report, second.report))
+        }
+        Outcome::Refused(why) => refused(why),
     }
 }

@@ -1,8 +1,11 @@
 // The public calls of the logarithm. Each asks its questions first.
+ghost use mathlib.Core.Path.{_≡_};
 ghost use lib.ListN.{length};
 ghost use lib.Ieee.{binary32};
 ghost use Rattle.arithmetic_questions.specs.Outputs.{OneOutputIn, OneOutputWith, TwoOutputsIn, TwoOutputsWith};
+ghost use Rattle.arithmetic_questions.specs.Reports.{reportAt};
 ghost use Rattle.functions_definitions.specs.Calls.{frechetLogm, logm as logmOf};
+ghost use Rattle.functions_definitions.specs.Reports.{frechetLogReport, logReport};
 use crate::log_derivative::frechet_logm_in;
 use crate::logarithm::logm_in;
 use arithmetic_matrices32::workspace::copy_in;
@@ -24,13 +27,14 @@ pub fn logm_with(
     clears: bool,
 ) -> Answer
     ensures { λ r. ⌜ OneOutputWith clears (logmOf binary32 rows columns (now (a .entry)) (length (now (out .entry))) (length (now (w .entry)))) (r .outcome) (now (out .entry)) (now (out .exit)) (now (w .entry)) (now (w .exit)) ⌝ }
+    ensures { λ r. ⌜ r .report ≡ reportAt (logmOf binary32 rows columns (now (a .entry)) (length (now (out .entry))) (length (now (w .entry)))) (logReport binary32 rows (now (a .entry))) ⌝ }
 {
     match ask_logm(rows, columns, a, out.len(), w.len()) {
         Question::No(why) => refused(why),
         Question::Passed => {
             copy_in(w, 0, a);
-            let outcome = logm_in(w, rows);
-            deliver(outcome, out, w, clears)
+            let answer = logm_in(w, rows);
+            deliver(answer, out, w, clears)
         }
     }
 }
@@ -38,6 +42,7 @@ pub fn logm_with(
 // The logarithm of the matrix a is written to out.
 pub fn logm(rows: usize, columns: usize, a: &[f32], out: &mut [f32], w: &mut [f32]) -> Answer
     ensures { λ r. ⌜ OneOutputIn (logmOf binary32 rows columns (now (a .entry)) (length (now (out .entry))) (length (now (w .entry)))) (r .outcome) (now (out .entry)) (now (out .exit)) (now (w .entry)) (now (w .exit)) ⌝ }
+    ensures { λ r. ⌜ r .report ≡ reportAt (logmOf binary32 rows columns (now (a .entry)) (length (now (out .entry))) (length (now (w .entry)))) (logReport binary32 rows (now (a .entry))) ⌝ }
 {
     logm_with(rows, columns, a, out, w, true)
 }
@@ -56,6 +61,7 @@ pub fn frechet_logm_with(
     clears: bool,
 ) -> Answer
     ensures { λ r. ⌜ TwoOutputsWith clears (frechetLogm binary32 rows columns (now (a .entry)) height width (now (e .entry)) (length (now (first .entry))) (length (now (second .entry))) (length (now (w .entry)))) (r .outcome) (now (first .entry)) (now (first .exit)) (now (second .entry)) (now (second .exit)) (now (w .entry)) (now (w .exit)) ⌝ }
+    ensures { λ r. ⌜ r .report ≡ reportAt (frechetLogm binary32 rows columns (now (a .entry)) height width (now (e .entry)) (length (now (first .entry))) (length (now (second .entry))) (length (now (w .entry)))) (frechetLogReport binary32 rows (now (a .entry)) (now (e .entry))) ⌝ }
 {
     match ask_frechet_logm(
         rows,
@@ -72,8 +78,8 @@ pub fn frechet_logm_with(
         Question::Passed => {
             copy_in(w, 0, a);
             copy_in(w, 4, e);
-            let outcome = frechet_logm_in(w, rows);
-            deliver_both(outcome, first, second, w, clears)
+            let answer = frechet_logm_in(w, rows);
+            deliver_both(answer, first, second, w, clears)
         }
     }
 }
@@ -91,6 +97,7 @@ pub fn frechet_logm(
     w: &mut [f32],
 ) -> Answer
     ensures { λ r. ⌜ TwoOutputsIn (frechetLogm binary32 rows columns (now (a .entry)) height width (now (e .entry)) (length (now (first .entry))) (length (now (second .entry))) (length (now (w .entry)))) (r .outcome) (now (first .entry)) (now (first .exit)) (now (second .entry)) (now (second .exit)) (now (w .entry)) (now (w .exit)) ⌝ }
+    ensures { λ r. ⌜ r .report ≡ reportAt (frechetLogm binary32 rows columns (now (a .entry)) height width (now (e .entry)) (length (now (first .entry))) (length (now (second .entry))) (length (now (w .entry)))) (frechetLogReport binary32 rows (now (a .entry)) (now (e .entry))) ⌝ }
 {
     frechet_logm_with(rows, columns, a, height, width, e, first, second, w, true)
 }

@@ -8,7 +8,9 @@ ghost use Rattle.arithmetic_floats.specs.Float.{epsilon};
 ghost use Rattle.arithmetic_matrices.specs.Norm.{frobenius as frobeniusOf};
 ghost use Rattle.arithmetic_matrices.specs.Workspace.{Room, slot};
 ghost use Rattle.arithmetic_questions.specs.Kernels.{Replaced};
+ghost use Rattle.arithmetic_questions.specs.Reports.{reportAt};
 ghost use Rattle.functions_definitions.specs.Logarithm.{isFar, seriesStep, seriesCoefficient, logarithm};
+ghost use Rattle.functions_definitions.specs.Reports.{logReport};
 ghost use Rattle.functions_roots.specs.Kernels.{tested, OnePass};
 ghost use Rattle.functions_logarithms.specs.Kernels.{RootingPass, RootsTaken, seriesIn, TermsAdded, SeriesSummed, LogarithmNear};
 use crate::newton::newton_root;
@@ -24,10 +26,16 @@ use arithmetic_matrices32::workspace::mult;
 use arithmetic_matrices32::workspace::scale;
 use arithmetic_matrices32::workspace::times;
 use arithmetic_matrices32::workspace::zero;
+use arithmetic_questions::answer::Answer;
 use arithmetic_questions::answer::Outcome;
 use arithmetic_questions::answer::Refusal;
+use arithmetic_questions::answer::beside;
+use arithmetic_questions::answer::nothing;
+use arithmetic_questions::answer::refused;
 use functions_logarithms::logarithm::Roots;
+use functions_logarithms::logarithm::TakenRoots;
 use functions_roots::pass::Pass;
+use functions_roots::pass::Passed;
 use functions_roots::pass::answers;
 
 // Whether the 1-norm of the matrix less I exceeds 0.1.
@@ -39,38 +47,66 @@ fn is_far(w: &[f32], n: usize) -> bool
 }
 
 // The matrix is replaced by its root, unless it is near I.
-fn rooting_pass(w: &mut [f32], n: usize) -> Pass
+fn rooting_pass(w: &mut [f32], n: usize) -> Passed
     requires { ⌜ Room n (now w) ⌝ }
     ensures { λ r. ⌜ RootingPass binary32 n r (now (w .entry)) (now (w .exit)) ⌝ }
 {
     if is_far(w, n) {
-        if answers(newton_root(w, n)) {
+        let root = newton_root(w, n);
+        let pass = root.pass;
+        if answers(pass) {
             copy(w, 1, 0, n);
-            Pass::Running
+            let report = root.report;
+            Passed {
+                pass: Pass::Running,
+                report,
+            }
         } else {
-            Pass::Failed
+            Passed {
+                pass: Pass::Failed,
+                report: nothing(),
+            }
         }
     } else {
-        Pass::Stopped
+        Passed {
+            pass: Pass::Stopped,
+            report: nothing(),
+        }
     }
 }
 
 // At most 100 roots.
-fn take_roots(w: &mut [f32], n: usize) -> Roots
+fn take_roots(w: &mut [f32], n: usize) -> TakenRoots
     requires { ⌜ Room n (now w) ⌝ }
     ensures { λ r. ⌜ RootsTaken binary32 n r (now (w .entry)) (now (w .exit)) ⌝ }
 {
+    let mut report = nothing();
     let mut k: u64 = 0;
     while k < 100 {
-        let pass = rooting_pass(w, n);
+        let made = rooting_pass(w, n);
+        report = beside(report, made.report);
+        let pass = made.pass;
         match pass {
             Pass::Running => {}
-            Pass::Stopped => return Roots::Taken(k),
-            Pass::Failed => return Roots::Refused,
+            Pass::Stopped => {
+                return TakenRoots {
+                    roots: Roots::Taken(k),
+                    report,
+                };
+            }
+            Pass::Failed => {
+                return TakenRoots {
+                    roots: Roots::Refused,
+                    report,
+                };
+            }
         }
         k += 1;
     }
-    Roots::Taken(k)
+    TakenRoots {
+        roots: Roots::Taken(k),
+        report,
+    }
 }
 
 // The coefficient of power k: 1 / k, negated at even k.
@@ -145,15 +181,22 @@ fn near_logarithm(w: &mut [f32], n: usize, roots: u64)
 }
 
 // The logarithm of the matrix of order n in slot 0 takes its place. Running out of roots or terms still answers.
-pub fn logm_in(w: &mut [f32], n: usize) -> Outcome
+pub fn logm_in(w: &mut [f32], n: usize) -> Answer
     requires { ⌜ Room n (now w) ⌝ }
-    ensures { λ r. ⌜ Replaced (0 ∷ 1 ∷ 2 ∷ 3 ∷ []) n (logarithm binary32 n (slot n (now (w .entry)) 0)) r (now (w .entry)) (now (w .exit)) ⌝ }
+    ensures { λ r. ⌜ Replaced (0 ∷ 1 ∷ 2 ∷ 3 ∷ []) n (logarithm binary32 n (slot n (now (w .entry)) 0)) (r .outcome) (now (w .entry)) (now (w .exit)) ⌝ }
+    ensures { λ r. ⌜ r .report ≡ reportAt (logarithm binary32 n (slot n (now (w .entry)) 0)) (logReport binary32 n (slot n (now (w .entry)) 0)) ⌝ }
 {
-    match take_roots(w, n) {
-        Roots::Taken(roots) => {
-            near_logarithm(w, n, roots);
-            Outcome::Done { halvings: 0 }
+    let taken = take_roots(w, n);
+    let roots = taken.roots;
+    match roots {
+        Roots::Taken(k) => {
+            near_logarithm(w, n, k);
+            let report = taken.report;
+            Answer {
+                outcome: Outcome::Done { halvings: 0 },
+                report,
+            }
         }
-        Roots::Refused => Outcome::Refused(Refusal::NotConverged),
+        Roots::Refused => refused(Refusal::NotConverged),
     }
 }

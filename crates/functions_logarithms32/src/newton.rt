@@ -3,8 +3,10 @@ ghost use mathlib.Core.Path.{_≡_};
 ghost use mathlib.Core.List.{[], _∷_};
 ghost use lib.Ieee.{binary32};
 ghost use Rattle.arithmetic_matrices.specs.Workspace.{Room, slot};
+ghost use Rattle.functions_definitions.specs.Reports.{luReport};
 ghost use Rattle.functions_definitions.specs.Roots.{passLimit, newtonStep, newtonScale};
-ghost use Rattle.functions_roots.specs.Kernels.{NewtonMean, OnePass, Passes, NewtonRoot};
+ghost use Rattle.functions_roots.specs.Kernels.{NewtonMean, ReportedPass, ReportedPasses};
+ghost use Rattle.functions_logarithms.specs.Kernels.{ReportedNewton};
 use arithmetic_floats32::float::of_small;
 use arithmetic_floats32::root::sqrt;
 use arithmetic_matrices32::norm::sum_of_squared_differences;
@@ -12,7 +14,11 @@ use arithmetic_matrices32::norm::trace;
 use arithmetic_matrices32::workspace::copy;
 use arithmetic_matrices32::workspace::diagonal;
 use arithmetic_matrices32::workspace::mean;
+use arithmetic_questions::answer::beside;
+use arithmetic_questions::answer::nothing;
+use arithmetic_questions32::report::factored;
 use functions_roots::pass::Pass;
+use functions_roots::pass::Passed;
 use functions_roots32::division::divide_slot;
 use functions_roots32::pass::root_verdict;
 use lu_factoring::LuOutcome;
@@ -28,35 +34,62 @@ fn newton_mean(w: &mut [f32], n: usize) -> Pass
     root_verdict(sum)
 }
 
-// One pass: x becomes the mean of itself and y, where x y = a.
-fn newton_pass(w: &mut [f32], n: usize) -> Pass
+// One pass: x becomes the mean of itself and y, where x y = a. It reports the factoring of x.
+fn newton_pass(w: &mut [f32], n: usize) -> Passed
     requires { ⌜ Room n (now w) ⌝ }
-    ensures { λ r. ⌜ OnePass (newtonStep binary32 n (slot n (now (w .entry)) 0)) (λ v. slot n v 1) (1 ∷ 2 ∷ 3 ∷ []) r (now (w .entry)) (now (w .exit)) ⌝ }
+    ensures { λ r. ⌜ ReportedPass (newtonStep binary32 n (slot n (now (w .entry)) 0)) (luReport binary32 n) (λ v. slot n v 1) (1 ∷ 2 ∷ 3 ∷ []) r (now (w .entry)) (now (w .exit)) ⌝ }
 {
     copy(w, 1, 2, n);
     copy(w, 0, 3, n);
-    match divide_slot(w, 3, n) {
-        LuOutcome::Factored => newton_mean(w, n),
-        LuOutcome::Singular(_) => Pass::Failed,
+    let division = divide_slot(w, 3, n);
+    let outcome = division.outcome;
+    match outcome {
+        LuOutcome::Factored => {
+            let pass = newton_mean(w, n);
+            Passed {
+                pass,
+                report: factored(division.smallest),
+            }
+        }
+        LuOutcome::Singular(_) => Passed {
+            pass: Pass::Failed,
+            report: nothing(),
+        },
     }
 }
 
 // At most 100 passes.
-fn newton_passes(w: &mut [f32], n: usize) -> Pass
+fn newton_passes(w: &mut [f32], n: usize) -> Passed
     requires { ⌜ Room n (now w) ⌝ }
-    ensures { λ r. ⌜ Passes (λ _. newtonStep binary32 n (slot n (now (w .entry)) 0)) passLimit (λ v. slot n v 1) (1 ∷ 2 ∷ 3 ∷ []) r (now (w .entry)) (now (w .exit)) ⌝ }
+    ensures { λ r. ⌜ ReportedPasses (λ _. newtonStep binary32 n (slot n (now (w .entry)) 0)) (luReport binary32 n) passLimit (λ v. slot n v 1) (1 ∷ 2 ∷ 3 ∷ []) r (now (w .entry)) (now (w .exit)) ⌝ }
 {
+    let mut report = nothing();
     let mut i: u64 = 0;
     while i < 100 {
-        let pass = newton_pass(w, n);
+        let made = newton_pass(w, n);
+        report = beside(report, made.report);
+        let pass = made.pass;
         match pass {
             Pass::Running => {}
-            Pass::Stopped => return Pass::Stopped,
-            Pass::Failed => return Pass::Failed,
+            Pass::Stopped => {
+                return Passed {
+                    pass: Pass::Stopped,
+                    report,
+                };
+            }
+            Pass::Failed => {
+                return Passed {
+                    pass: Pass::Failed,
+                    report,
+                };
+            }
         }
         i += 1;
     }
-    Pass::Running
+    Passed {
+        pass: Pass::Running,
+        report,
+    }
 }
 
 // The start is this times the identity: the root of trace / n, or 1 unless that exceeds 2^-23.
@@ -69,9 +102,9 @@ fn newton_scale(w: &[f32], n: usize) -> f32
 }
 
 // The root of a goes to slot 1. A pass fails where LU refuses x.
-pub fn newton_root(w: &mut [f32], n: usize) -> Pass
+pub fn newton_root(w: &mut [f32], n: usize) -> Passed
     requires { ⌜ Room n (now w) ⌝ }
-    ensures { λ r. ⌜ NewtonRoot binary32 n r (now (w .entry)) (now (w .exit)) ⌝ }
+    ensures { λ r. ⌜ ReportedNewton binary32 n r (now (w .entry)) (now (w .exit)) ⌝ }
 {
     let scale = newton_scale(w, n);
     diagonal(w, 1, scale, n);

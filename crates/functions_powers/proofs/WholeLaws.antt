@@ -19,21 +19,27 @@ use lib.Ieee.{Float, Format}
 use Rattle.lu_factoring.specs.declared.LuOutcome.{LuOutcome}
 use Rattle.lu_factoring.specs.declared.LuOutcome.the-variants.{Factored, Singular}
 use Rattle.arithmetic_questions.specs.declared.answer.Refusal.the-variants.{NotConverged}
-use Rattle.arithmetic_questions.specs.declared.answer.Outcome.the-variants.{Done, Refused}
+use Rattle.arithmetic_questions.specs.declared.answer.Outcome.{Outcome}
+use Rattle.arithmetic_questions.specs.declared.answer.Outcome.the-variants.{Done}
+use Rattle.arithmetic_questions.specs.declared.answer.Report.{Report}
 use Rattle.arithmetic_matrices.specs.Product.{mulM, identityM, squared}
 use Rattle.arithmetic_matrices.specs.Workspace.{Room, slot, store, member, Only}
 use Rattle.arithmetic_matrices.specs.Kernels.{Squared}
 use Rattle.arithmetic_questions.specs.Result.{done, outcome, exit}
+use Rattle.arithmetic_questions.specs.Answers.{numbered, reported}
 use Rattle.arithmetic_questions.specs.Kernels.{Replaced}
+use Rattle.arithmetic_questions.specs.Reports.{nothing, factored}
 use Rattle.arithmetic_floats.proofs.Order.{split}
 use Rattle.arithmetic_matrices.proofs.Slots.{only-refl, only-trans, only-more, room-kept}
 use Rattle.arithmetic_matrices.proofs.States.{State, held, upd, start, held-at, step-identity, step-mult, step-copy, member-among}
 use Rattle.lu_factoring.specs.Lu.{luOutcome}
 use Rattle.lu_factoring.specs.Kernels.{divided}
+use Rattle.lu_factoring.specs.Pivots.{smallestPivot}
 use Rattle.lu_factoring.specs.Solve.{division, inverse, quotient, whereFactored}
 use Rattle.lu_factoring.proofs.DivisionLaws.{divided-slot, divided-only}
 use Rattle.functions_definitions.specs.Roots.{orNotConverged}
 use Rattle.functions_definitions.specs.Powers.{bitPower, wholePower, inversePower}
+use Rattle.functions_definitions.specs.Reports.{luReport, wholeReport}
 use Rattle.functions_powers.specs.Kernels.{BitMultiplied, BitsMultiplied, AllMultiplied, BitPowered, isNegative}
 use Rattle.functions_powers.proofs.SeriesLaws.{slot-kept}
 
@@ -151,10 +157,10 @@ module _ (f : Format) (n : ℕ) (w₀ : List Float) (r : Room n w₀) where
     changed : Only (member (0 ∷ 1 ∷ [])) w₀ w1
     changed = only-trans (beside .only) (subst (λ (w : List Float). Only (member (0 ∷ 1 ∷ [])) v w) (sym e1) (divided-only f n 0 1 v room (omega arith) o))
 
-    pub inverse-none : (k : ℕ) → o ≡ Singular k → Replaced (0 ∷ 1 ∷ []) n (orNotConverged (inverse f n (slot n w₀ 0))) (Refused NotConverged) w₀ w1
+    pub inverse-none : (k : ℕ) (o′ : Outcome) → o ≡ Singular k → reported o′ ≡ numbered NotConverged → Replaced (0 ∷ 1 ∷ []) n (orNotConverged (inverse f n (slot n w₀ 0))) o′ w₀ w1
     unfolding inverse division outcome exit
-    inverse-none k s = subst (λ (l : LuOutcome). Replaced (0 ∷ 1 ∷ []) n (orNotConverged (whereFactored l (quotient f n (slot n w₀ 0) (identityM n)))) (Refused NotConverged) w₀ w1) (sym s ∙ eo)
-        (record { outcome = refl; result = refl; only = changed })
+    inverse-none k o′ s h = subst (λ (l : LuOutcome). Replaced (0 ∷ 1 ∷ []) n (orNotConverged (whereFactored l (quotient f n (slot n w₀ 0) (identityM n)))) o′ w₀ w1) (sym s ∙ eo)
+        (record { outcome = h; result = refl; only = changed })
 
     pub inverse-done : (w2 : List Float) → o ≡ Factored → w2 ≡ store w1 0 (slot n w1 1) → Replaced (0 ∷ 1 ∷ []) n (orNotConverged (inverse f n (slot n w₀ 0))) (Done 0) w₀ w2
     unfolding inverse division outcome exit
@@ -164,6 +170,11 @@ module _ (f : Format) (n : ℕ) (w₀ : List Float) (r : Room n w₀) where
         ap (λ (w : List Float). slot n w 1) (e1 ∙ ap (divided f n n 0 256 v) s) ∙ divided-slot f n 0 1 v room (omega arith) Factored refl ∙ (λ i. quotient f n (held-at 0 n beside refl i) (held-at 1 n beside refl i)) in
         subst (λ (l : LuOutcome). Replaced (0 ∷ 1 ∷ []) n (orNotConverged (whereFactored l (quotient f n (slot n w₀ 0) (identityM n)))) (Done 0) w₀ w2) (sym s ∙ eo)
         (record { outcome = refl; result = held-at 0 n S2 refl ∙ q; only = only-trans changed (S2 .only) })
+
+-- the report of the factoring
+pub inverse-reported : (f : Format) (n : ℕ) (a : List Float) (v : Float) (ρ : Report) → v ≡ smallestPivot f n a → ρ ≡ factored v → ρ ≡ luReport f n a
+unfolding luReport
+inverse-reported f n a v ρ e h = h ∙ ap factored e
 
 -- ---- the sign
 
@@ -215,6 +226,17 @@ unfolding wholePower
 whole-positive f n a (pos e) h = refl
 whole-positive f n a (negsuc e) h = let z : _≡_ {A = ℕ} 0 1 = cc in absurd (omega arith)
 
+-- and so do their reports
+pub reports-negative : (f : Format) (n : ℕ) (a : List Float) (e : ℤ) → isNegative e ≡ true → luReport f n a ≡ wholeReport f n a e
+unfolding wholeReport
+reports-negative f n a (pos e) h = let z : _≡_ {A = ℕ} 0 1 = cc in absurd (omega arith)
+reports-negative f n a (negsuc e) h = refl
+
+pub reports-positive : (f : Format) (n : ℕ) (a : List Float) (e : ℤ) → isNegative e ≡ false → nothing ≡ wholeReport f n a e
+unfolding wholeReport
+reports-positive f n a (pos e) h = refl
+reports-positive f n a (negsuc e) h = let z : _≡_ {A = ℕ} 0 1 = cc in absurd (omega arith)
+
 -- an exponent that is passed to another function
-pub whole-read : (f : Format) (n : ℕ) (a : List Float) (e : ℤ) → SFits w64 e → wholePower f n a (toZ w64 (ofZ w64 e)) ≡ wholePower f n a e
-whole-read f n a e h = ap (wholePower f n a) (toZ-ofZ w64 e h)
+pub exponent-read : {k : ℤ} (e : ℤ) → SFits w64 e → e ≡ k → toZ w64 (ofZ w64 e) ≡ k
+exponent-read e h p = toZ-ofZ w64 e h ∙ p

@@ -1,9 +1,11 @@
 // The sine of the matrix X of order n in slot 0, which takes its place. The cosine stands in slot 4, X3, X5 and X7, powers of X, in slots 2, 3 and 5.
+ghost use mathlib.Core.Path.{_≡_};
 ghost use Prim.Native.Nat.{_≤_};
 ghost use mathlib.Core.List.{[], _∷_};
 ghost use lib.Ieee.{binary64};
 ghost use Rattle.arithmetic_matrices.specs.Workspace.{Room, slot};
 ghost use Rattle.arithmetic_questions.specs.Kernels.{Replaced};
+ghost use Rattle.arithmetic_questions.specs.Reports.{nothing, reportAt};
 ghost use Rattle.functions_definitions.specs.Trigonometric.{sinM};
 ghost use Rattle.functions_powers.specs.Kernels.{OddPowers, Seventh, BothSeries, BothDoubled, BothAfter, SineRun};
 use crate::cosine::cosine_beside;
@@ -16,7 +18,10 @@ use arithmetic_matrices::workspace::deduct;
 use arithmetic_matrices::workspace::minus_identity;
 use arithmetic_matrices::workspace::mult;
 use arithmetic_matrices::workspace::scale;
+use arithmetic_questions::answer::Answer;
 use arithmetic_questions::answer::Outcome;
+use arithmetic_questions::answer::done;
+use arithmetic_questions::answer::refused;
 use functions_exponential::halvings::halvings_for;
 
 // The odd powers of X, by X2 in slot 1.
@@ -83,15 +88,16 @@ pub fn sine_at(w: &mut [f64], n: usize, s: u64)
 }
 
 // The sine of the matrix in slot 0 takes its place.
-pub fn sinm_in(w: &mut [f64], n: usize) -> Outcome
+pub fn sinm_in(w: &mut [f64], n: usize) -> Answer
     requires { ⌜ Room n (now w) ⌝ }
-    ensures { λ r. ⌜ Replaced (0 ∷ 1 ∷ 2 ∷ 3 ∷ 4 ∷ 5 ∷ []) n (sinM binary64 n (slot n (now (w .entry)) 0)) r (now (w .entry)) (now (w .exit)) ⌝ }
+    ensures { λ r. ⌜ Replaced (0 ∷ 1 ∷ 2 ∷ 3 ∷ 4 ∷ 5 ∷ []) n (sinM binary64 n (slot n (now (w .entry)) 0)) (r .outcome) (now (w .entry)) (now (w .exit)) ⌝ }
+    ensures { λ r. ⌜ r .report ≡ reportAt (sinM binary64 n (slot n (now (w .entry)) 0)) nothing ⌝ }
 {
     match halvings_for(norm_1(w, 0, n) + 1.0) {
-        Outcome::Refused(why) => Outcome::Refused(why),
+        Outcome::Refused(why) => refused(why),
         Outcome::Done { halvings } => {
             sine_at(w, n, halvings);
-            Outcome::Done { halvings }
+            done(halvings)
         }
     }
 }

@@ -1,8 +1,11 @@
 // The public calls of cosine, sine and powers. Each asks its questions first, and a refusal leaves output and workspace as they were lent.
+ghost use mathlib.Core.Path.{_≡_};
 ghost use lib.ListN.{length};
 ghost use lib.Ieee.{binary32};
 ghost use Rattle.arithmetic_questions.specs.Outputs.{OneOutputIn, OneOutputWith};
+ghost use Rattle.arithmetic_questions.specs.Reports.{nothing, reportAt};
 ghost use Rattle.functions_definitions.specs.Calls.{cosm as cosmOf, sinm as sinmOf, powm as powmOf};
+ghost use Rattle.functions_definitions.specs.Reports.{powerReport};
 use crate::cosine::cosm_in;
 use crate::power::powm_in;
 use crate::sine::sinm_in;
@@ -24,13 +27,14 @@ pub fn cosm_with(
     clears: bool,
 ) -> Answer
     ensures { λ r. ⌜ OneOutputWith clears (cosmOf binary32 rows columns (now (a .entry)) (length (now (out .entry))) (length (now (w .entry)))) (r .outcome) (now (out .entry)) (now (out .exit)) (now (w .entry)) (now (w .exit)) ⌝ }
+    ensures { λ r. ⌜ r .report ≡ reportAt (cosmOf binary32 rows columns (now (a .entry)) (length (now (out .entry))) (length (now (w .entry)))) nothing ⌝ }
 {
     match ask_expm(rows, columns, a, out.len(), w.len()) {
         Question::No(why) => refused(why),
         Question::Passed => {
             copy_in(w, 0, a);
-            let outcome = cosm_in(w, rows);
-            deliver(outcome, out, w, clears)
+            let answer = cosm_in(w, rows);
+            deliver(answer, out, w, clears)
         }
     }
 }
@@ -38,6 +42,7 @@ pub fn cosm_with(
 // The cosine of the matrix a is written to out.
 pub fn cosm(rows: usize, columns: usize, a: &[f32], out: &mut [f32], w: &mut [f32]) -> Answer
     ensures { λ r. ⌜ OneOutputIn (cosmOf binary32 rows columns (now (a .entry)) (length (now (out .entry))) (length (now (w .entry)))) (r .outcome) (now (out .entry)) (now (out .exit)) (now (w .entry)) (now (w .exit)) ⌝ }
+    ensures { λ r. ⌜ r .report ≡ reportAt (cosmOf binary32 rows columns (now (a .entry)) (length (now (out .entry))) (length (now (w .entry)))) nothing ⌝ }
 {
     cosm_with(rows, columns, a, out, w, true)
 }
@@ -52,13 +57,14 @@ pub fn sinm_with(
     clears: bool,
 ) -> Answer
     ensures { λ r. ⌜ OneOutputWith clears (sinmOf binary32 rows columns (now (a .entry)) (length (now (out .entry))) (length (now (w .entry)))) (r .outcome) (now (out .entry)) (now (out .exit)) (now (w .entry)) (now (w .exit)) ⌝ }
+    ensures { λ r. ⌜ r .report ≡ reportAt (sinmOf binary32 rows columns (now (a .entry)) (length (now (out .entry))) (length (now (w .entry)))) nothing ⌝ }
 {
     match ask_expm(rows, columns, a, out.len(), w.len()) {
         Question::No(why) => refused(why),
         Question::Passed => {
             copy_in(w, 0, a);
-            let outcome = sinm_in(w, rows);
-            deliver(outcome, out, w, clears)
+            let answer = sinm_in(w, rows);
+            deliver(answer, out, w, clears)
         }
     }
 }
@@ -66,6 +72,7 @@ pub fn sinm_with(
 // The sine of the matrix a is written to out.
 pub fn sinm(rows: usize, columns: usize, a: &[f32], out: &mut [f32], w: &mut [f32]) -> Answer
     ensures { λ r. ⌜ OneOutputIn (sinmOf binary32 rows columns (now (a .entry)) (length (now (out .entry))) (length (now (w .entry)))) (r .outcome) (now (out .entry)) (now (out .exit)) (now (w .entry)) (now (w .exit)) ⌝ }
+    ensures { λ r. ⌜ r .report ≡ reportAt (sinmOf binary32 rows columns (now (a .entry)) (length (now (out .entry))) (length (now (w .entry)))) nothing ⌝ }
 {
     sinm_with(rows, columns, a, out, w, true)
 }
@@ -81,13 +88,14 @@ pub fn powm_with(
     clears: bool,
 ) -> Answer
     ensures { λ r. ⌜ OneOutputWith clears (powmOf binary32 rows columns (now (a .entry)) (length (now (out .entry))) (length (now (w .entry))) p) (r .outcome) (now (out .entry)) (now (out .exit)) (now (w .entry)) (now (w .exit)) ⌝ }
+    ensures { λ r. ⌜ r .report ≡ reportAt (powmOf binary32 rows columns (now (a .entry)) (length (now (out .entry))) (length (now (w .entry))) p) (powerReport binary32 rows (now (a .entry)) p) ⌝ }
 {
     match ask_powm(rows, columns, a, p, out.len(), w.len()) {
         Question::No(why) => refused(why),
         Question::Passed => {
             copy_in(w, 0, a);
-            let outcome = powm_in(w, rows, p);
-            deliver(outcome, out, w, clears)
+            let answer = powm_in(w, rows, p);
+            deliver(answer, out, w, clears)
         }
     }
 }
@@ -102,6 +110,7 @@ pub fn powm(
     w: &mut [f32],
 ) -> Answer
     ensures { λ r. ⌜ OneOutputIn (powmOf binary32 rows columns (now (a .entry)) (length (now (out .entry))) (length (now (w .entry))) p) (r .outcome) (now (out .entry)) (now (out .exit)) (now (w .entry)) (now (w .exit)) ⌝ }
+    ensures { λ r. ⌜ r .report ≡ reportAt (powmOf binary32 rows columns (now (a .entry)) (length (now (out .entry))) (length (now (w .entry))) p) (powerReport binary32 rows (now (a .entry)) p) ⌝ }
 {
     powm_with(rows, columns, a, p, out, w, true)
 }

@@ -7,6 +7,7 @@ ghost use lib.Dec.{T, eqb};
 ghost use lib.Ieee.{binary32};
 ghost use Rattle.arithmetic_matrices.specs.Workspace.{Room, slot, member};
 ghost use Rattle.arithmetic_questions.specs.Kernels.{Replaced};
+ghost use Rattle.arithmetic_questions.specs.Reports.{nothing, reportAt};
 ghost use Rattle.functions_definitions.specs.Trigonometric.{oneOver, cosM};
 ghost use Rattle.functions_powers.specs.Kernels.{reciprocals, EvenPowers, Sixth, Beside, Eighth, Doubled, CosineDoubled, CosineAfter, CosineRun};
 use arithmetic_floats32::float::inverse_power_of_two;
@@ -20,7 +21,10 @@ use arithmetic_matrices32::workspace::minus_identity;
 use arithmetic_matrices32::workspace::mult;
 use arithmetic_matrices32::workspace::scale;
 use arithmetic_matrices32::workspace::times;
+use arithmetic_questions::answer::Answer;
 use arithmetic_questions::answer::Outcome;
+use arithmetic_questions::answer::done;
+use arithmetic_questions::answer::refused;
 use functions_exponential32::halvings::halvings_for;
 
 // The rounded reciprocal of k, one of those that the series take.
@@ -115,15 +119,16 @@ pub fn cosine_at(w: &mut [f32], n: usize, s: u64)
 }
 
 // The cosine of the matrix in slot 0 takes its place.
-pub fn cosm_in(w: &mut [f32], n: usize) -> Outcome
+pub fn cosm_in(w: &mut [f32], n: usize) -> Answer
     requires { ⌜ Room n (now w) ⌝ }
-    ensures { λ r. ⌜ Replaced (0 ∷ 1 ∷ 2 ∷ 3 ∷ 4 ∷ []) n (cosM binary32 n (slot n (now (w .entry)) 0)) r (now (w .entry)) (now (w .exit)) ⌝ }
+    ensures { λ r. ⌜ Replaced (0 ∷ 1 ∷ 2 ∷ 3 ∷ 4 ∷ []) n (cosM binary32 n (slot n (now (w .entry)) 0)) (r .outcome) (now (w .entry)) (now (w .exit)) ⌝ }
+    ensures { λ r. ⌜ r .report ≡ reportAt (cosM binary32 n (slot n (now (w .entry)) 0)) nothing ⌝ }
 {
     match halvings_for(norm_1(w, 0, n) + 1.0) {
-        Outcome::Refused(why) => Outcome::Refused(why),
+        Outcome::Refused(why) => refused(why),
         Outcome::Done { halvings } => {
             cosine_at(w, n, halvings);
-            Outcome::Done { halvings }
+            done(halvings)
         }
     }
 }

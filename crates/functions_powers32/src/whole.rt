@@ -6,16 +6,22 @@ ghost use lib.Ieee.{binary32};
 ghost use Rattle.arithmetic_matrices.specs.Product.{identityM};
 ghost use Rattle.arithmetic_matrices.specs.Workspace.{Room, slot};
 ghost use Rattle.arithmetic_questions.specs.Kernels.{Replaced};
+ghost use Rattle.arithmetic_questions.specs.Reports.{reportAt};
 ghost use Rattle.lu_factoring.specs.Solve.{inverse};
 ghost use Rattle.functions_definitions.specs.Roots.{orNotConverged};
 ghost use Rattle.functions_definitions.specs.Powers.{wholePower, inversePower};
+ghost use Rattle.functions_definitions.specs.Reports.{luReport, wholeReport};
 ghost use Rattle.functions_powers.specs.Kernels.{BitMultiplied, AllMultiplied, BitPowered};
 use arithmetic_matrices32::workspace::copy;
 use arithmetic_matrices32::workspace::identity;
 use arithmetic_matrices32::workspace::mult;
 use arithmetic_matrices32::workspace::square;
+use arithmetic_questions::answer::Answer;
 use arithmetic_questions::answer::Outcome;
 use arithmetic_questions::answer::Refusal;
+use arithmetic_questions::answer::done;
+use arithmetic_questions::answer::refused;
+use arithmetic_questions32::report::factored;
 use functions_powers::exponent::is_negative;
 use functions_powers::exponent::size_of;
 use lu_factoring::LuOutcome;
@@ -59,52 +65,67 @@ pub fn bit_power(w: &mut [f32], n: usize, e: u64)
 }
 
 // The inverse of the matrix in slot 0 takes its place. `pivots` is room for n pivots.
-fn take_inverse(w: &mut [f32], n: usize, pivots: &mut [usize]) -> Outcome
+fn take_inverse(w: &mut [f32], n: usize, pivots: &mut [usize]) -> Answer
     requires { ⌜ Room n (now w) ⌝ }
     requires { ⌜ length (now pivots) ≡ n ⌝ }
-    ensures { λ r. ⌜ Replaced (0 ∷ 1 ∷ []) n (orNotConverged (inverse binary32 n (slot n (now (w .entry)) 0))) r (now (w .entry)) (now (w .exit)) ⌝ }
+    ensures { λ r. ⌜ Replaced (0 ∷ 1 ∷ []) n (orNotConverged (inverse binary32 n (slot n (now (w .entry)) 0))) (r .outcome) (now (w .entry)) (now (w .exit)) ⌝ }
+    ensures { λ r. ⌜ r .report ≡ reportAt (orNotConverged (inverse binary32 n (slot n (now (w .entry)) 0))) (luReport binary32 n (slot n (now (w .entry)) 0)) ⌝ }
 {
-    match invert(w, 0, 1, n, pivots) {
-        LuOutcome::Singular(_) => Outcome::Refused(Refusal::NotConverged),
+    let d = invert(w, 0, 1, n, pivots);
+    let outcome = d.outcome;
+    match outcome {
+        LuOutcome::Singular(_) => refused(Refusal::NotConverged),
         LuOutcome::Factored => {
             copy(w, 1, 0, n);
-            Outcome::Done { halvings: 0 }
+            Answer {
+                outcome: Outcome::Done { halvings: 0 },
+                report: factored(d.smallest),
+            }
         }
     }
 }
 
 // `take_inverse` with room of its own.
-fn inverse_in(w: &mut [f32], n: usize) -> Outcome
+fn inverse_in(w: &mut [f32], n: usize) -> Answer
     requires { ⌜ Room n (now w) ⌝ }
-    ensures { λ r. ⌜ Replaced (0 ∷ 1 ∷ []) n (orNotConverged (inverse binary32 n (slot n (now (w .entry)) 0))) r (now (w .entry)) (now (w .exit)) ⌝ }
+    ensures { λ r. ⌜ Replaced (0 ∷ 1 ∷ []) n (orNotConverged (inverse binary32 n (slot n (now (w .entry)) 0))) (r .outcome) (now (w .entry)) (now (w .exit)) ⌝ }
+    ensures { λ r. ⌜ r .report ≡ reportAt (orNotConverged (inverse binary32 n (slot n (now (w .entry)) 0))) (luReport binary32 n (slot n (now (w .entry)) 0)) ⌝ }
 {
     let mut pivots = pivot_room();
     take_inverse(w, n, &mut pivots[..n])
 }
 
 // The power e of the inverse of the matrix in slot 0 takes its place.
-fn inverse_power(w: &mut [f32], n: usize, e: u64) -> Outcome
+fn inverse_power(w: &mut [f32], n: usize, e: u64) -> Answer
     requires { ⌜ Room n (now w) ⌝ }
-    ensures { λ r. ⌜ Replaced (0 ∷ 1 ∷ 2 ∷ []) n (inversePower binary32 n (slot n (now (w .entry)) 0) e) r (now (w .entry)) (now (w .exit)) ⌝ }
+    ensures { λ r. ⌜ Replaced (0 ∷ 1 ∷ 2 ∷ []) n (inversePower binary32 n (slot n (now (w .entry)) 0) e) (r .outcome) (now (w .entry)) (now (w .exit)) ⌝ }
+    ensures { λ r. ⌜ r .report ≡ reportAt (inversePower binary32 n (slot n (now (w .entry)) 0) e) (luReport binary32 n (slot n (now (w .entry)) 0)) ⌝ }
 {
-    match inverse_in(w, n) {
-        Outcome::Refused(why) => Outcome::Refused(why),
-        Outcome::Done { halvings } => {
+    let answer = inverse_in(w, n);
+    let outcome = answer.outcome;
+    match outcome {
+        Outcome::Refused(why) => refused(why),
+        Outcome::Done { halvings: _ } => {
             bit_power(w, n, e);
-            Outcome::Done { halvings: 0 }
+            let report = answer.report;
+            Answer {
+                outcome: Outcome::Done { halvings: 0 },
+                report,
+            }
         }
     }
 }
 
 // The power e of the matrix in slot 0 takes its place: a negative one is that of the inverse.
-pub fn whole_power(w: &mut [f32], n: usize, e: i64) -> Outcome
+pub fn whole_power(w: &mut [f32], n: usize, e: i64) -> Answer
     requires { ⌜ Room n (now w) ⌝ }
-    ensures { λ r. ⌜ Replaced (0 ∷ 1 ∷ 2 ∷ []) n (wholePower binary32 n (slot n (now (w .entry)) 0) e) r (now (w .entry)) (now (w .exit)) ⌝ }
+    ensures { λ r. ⌜ Replaced (0 ∷ 1 ∷ 2 ∷ []) n (wholePower binary32 n (slot n (now (w .entry)) 0) e) (r .outcome) (now (w .entry)) (now (w .exit)) ⌝ }
+    ensures { λ r. ⌜ r .report ≡ reportAt (wholePower binary32 n (slot n (now (w .entry)) 0) e) (wholeReport binary32 n (slot n (now (w .entry)) 0) e) ⌝ }
 {
     if is_negative(e) {
         inverse_power(w, n, size_of(e))
     } else {
         bit_power(w, n, size_of(e));
-        Outcome::Done { halvings: 0 }
+        done(0)
     }
 }

@@ -13,6 +13,8 @@ use Rattle.arithmetic_floats.proofs.RootBounds.{root-not-below}
 use Rattle.arithmetic_matrices.specs.Matrix.{part, tab, item}
 use Rattle.arithmetic_matrices.specs.Norm.{sumOfSquares, frobenius, normOfDifference}
 use Rattle.arithmetic_questions.specs.Result.{done, refused}
+use Rattle.arithmetic_questions.specs.Reports.{nothing, beside}
+use Rattle.arithmetic_questions.specs.declared.answer.Report.{Report}
 use Rattle.arithmetic_matrices.specs.Workspace.{Room, slot, member, Only}
 use Rattle.arithmetic_matrices.proofs.ProductLaws.{subM-parts}
 use Rattle.arithmetic_matrices.proofs.Slots.{only-refl, only-trans}
@@ -24,10 +26,12 @@ use Rattle.lu_factoring.specs.Solve.{standIn, quotient, division, whereFactored
 use Rattle.lu_factoring.proofs.DivisionLaws.{divided-slot, divided-only}
 use Rattle.functions_definitions.specs.Roots.{rootTolerance}
 use Rattle.functions_definitions.specs.Iterate.{Step, running, after, verdict, ended}
-use Rattle.functions_roots.specs.Kernels.{asStep, tested, answered, OnePass, Passes, SlotQuotient}
+use Rattle.functions_roots.specs.Kernels.{asStep, tested, answered, OnePass, Passes, ReportedPass, ReportedPasses, SlotQuotient}
 use Rattle.functions_roots.specs.declared.pass.Pass.{Pass}
+use Rattle.functions_roots.specs.declared.pass.Passed.{Passed}
 use Rattle.functions_roots.specs.declared.pass.Pass.the-variants.{Running, Stopped, Failed}
 use Rattle.functions_definitions.proofs.IterateLaws.{goes-on, stops, fails, runs-out}
+use Rattle.functions_definitions.proofs.GatheredLaws.{gives, reporting-none, reporting-more, reporting-stops, reporting-out}
 
 -- a pass that its test ends, as the definitions say it
 pub step-tested : {S : Type 0} (b : Bool) (x : S) → asStep (tested b) x ≡ verdict b x
@@ -82,11 +86,45 @@ module _ {S : Type 0} {g : ℕ → S → Step S} {count : ℕ} {read : List Floa
     pub passing-stops : p ≡ Stopped → Passes g count read ss Stopped w₀ w′
     passing-stops e = record { step = sym (stops g (read w₀) (read w) i (H .state) (read w′) count h (told Stopped e)); only = all }
 
-    pub passing-fails : p ≡ Failed → Passes g count read ss Failed w₀ w′
+    passing-fails : p ≡ Failed → Passes g count read ss Failed w₀ w′
     passing-fails e = record { step = sym (fails g (read w₀) (read w) i (H .state) count h (told Failed e)); only = all }
 
   pub passing-out : count ≤ i → Passes g count read ss Running w₀ w
   passing-out l = record { step = sym (runs-out g (read w₀) (read w) i (H .state) count (H .within) l); only = H .only }
+
+-- ---- the loop over passes that report
+
+-- a pass that failed says nothing
+pub silent : {A : Type 0} {p : Pass} → p ≡ Failed → answered p ≡ true → A
+silent e a = absurd (true≢false (sym a ∙ ap answered e))
+
+-- i passes are made, the iteration goes on, and ρ is what they report
+pub record Reporting {S : Type 0} (g : ℕ → S → Step S) (h : S → Report) (count : ℕ) (read : List Float → S) (ss : List ℕ) (w₀ w : List Float) (ρ : Report) (i : ℕ) : Type 0 where
+  pub passing : Passing g count read ss w₀ w i
+  pub report : ρ ≡ gives h g (read w₀) i
+
+pub reporting-start : {S : Type 0} {g : ℕ → S → Step S} {h : S → Report} {count : ℕ} {read : List Float → S} {ss : List ℕ} {w₀ : List Float} {ρ : Report} → ρ ≡ nothing → Reporting g h count read ss w₀ w₀ ρ 0
+reporting-start {g = g} {h = h} {read = read} {w₀ = w₀} e = record { passing = passing-start; report = e ∙ reporting-none h g (read w₀) }
+
+module _ {S : Type 0} {g : ℕ → S → Step S} {h : S → Report} {count : ℕ} {read : List Float → S} {ss : List ℕ} {w₀ w : List Float} {ρ : Report} {i : ℕ} (H : Reporting g h count read ss w₀ w ρ i) where
+  module _ {w′ : List Float} {r : Passed} {ρ′ : Report} (l : i < count) (P : ReportedPass (g i) h read ss r w w′) (B : ρ′ ≡ beside ρ (r .report)) where
+    pub reporting-turn : r .pass ≡ Running → Reporting g h count read ss w₀ w′ ρ′ (i + 1)
+    reporting-turn e = record {
+      passing = passing-more (H .passing) l (P .passed) e;
+      report = reporting-more h g (read w₀) i (read w) (H .passing .state) ρ (r .report) ρ′ (H .report) (P .reports (ap answered e)) B;
+    }
+
+    pub reporting-stopped : r .pass ≡ Stopped → ReportedPasses g h count read ss (record { pass = Stopped; report = ρ′ }) w₀ w′
+    reporting-stopped e = record {
+      passed = passing-stops (H .passing) l (P .passed) e;
+      reports = λ _. reporting-stops h g (read w₀) i (read w) (H .passing .state) ρ (r .report) ρ′ (H .report) (P .reports (ap answered e)) B count (read w′) l (sym (P .passed .step) ∙ ap (λ (z : Pass). asStep z (read w′)) e);
+    }
+
+    pub reporting-failed : r .pass ≡ Failed → ReportedPasses g h count read ss (record { pass = Failed; report = ρ′ }) w₀ w′
+    reporting-failed e = record { passed = passing-fails (H .passing) l (P .passed) e; reports = silent refl }
+
+  pub reporting-end : count ≤ i → ReportedPasses g h count read ss (record { pass = Running; report = ρ }) w₀ w
+  reporting-end l = record { passed = passing-out (H .passing) l; reports = λ _. reporting-out h g (read w₀) i count ρ (H .report) (H .passing .within) l }
 
 -- ---- a system: the matrix in slot 2, the right-hand matrix in slot x
 

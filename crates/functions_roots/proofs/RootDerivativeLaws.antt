@@ -17,10 +17,13 @@ use Rattle.arithmetic_matrices.specs.Workspace.{Room, slot, store, member, Only
 use Rattle.arithmetic_questions.specs.Result.{Result, refused, done, _>>=_, outcome, exit}
 use Rattle.arithmetic_questions.specs.Outputs.{Both}
 use Rattle.arithmetic_questions.specs.Kernels.{Replaced, ReplacedBoth}
+use Rattle.arithmetic_questions.specs.Answers.{numbered, reported}
+use Rattle.arithmetic_questions.specs.Reports.{nothing, factored, beside, reportAt}
 use Rattle.arithmetic_questions.specs.declared.answer.Outcome.{Outcome}
 use Rattle.arithmetic_questions.specs.declared.answer.Outcome.the-variants.{Done, Refused}
 use Rattle.arithmetic_questions.specs.declared.answer.Refusal.{Refusal}
-use Rattle.arithmetic_questions.specs.declared.answer.Refusal.the-variants.{NotConverged}
+use Rattle.arithmetic_questions.specs.declared.answer.Report.{Report}
+use Rattle.arithmetic_questions.proofs.ReportLaws.{report-of}
 use Rattle.arithmetic_questions.proofs.BothLaws.{call-done, both-refused, both-follows}
 use Rattle.arithmetic_matrices.proofs.MatrixLaws.{square-le, tab-is, length-grid, grid-is}
 use Rattle.arithmetic_matrices.proofs.PartLaws.{length-part, length-put, part-put, part-put-apart, returned}
@@ -29,6 +32,7 @@ use Rattle.arithmetic_matrices.proofs.States.{Held, start, step-store, step-tra
 use Rattle.lu_factoring.specs.declared.LuOutcome.{LuOutcome}
 use Rattle.lu_factoring.specs.declared.LuOutcome.the-variants.{Factored, Singular}
 use Rattle.lu_factoring.specs.Lu.{luOutcome, luFactors, luPivots, luAt}
+use Rattle.lu_factoring.specs.Pivots.{smallestPivot}
 use Rattle.lu_factoring.specs.Solve.{permuted, forward, solved, solvedMatrix, standIn, whereFactored}
 use Rattle.lu_factoring.specs.Kernels.{divided}
 use Rattle.lu_factoring.proofs.LuLaws.{length-luAt}
@@ -36,6 +40,8 @@ use Rattle.lu_factoring.proofs.SolveLaws.{length-permuted, length-forward, leng
 use Rattle.lu_factoring.proofs.DivisionLaws.{length-solvedMatrix}
 use Rattle.functions_definitions.specs.Roots.{orNotConverged, squareRoot}
 use Rattle.functions_definitions.specs.Derivatives.{sylvesterMatrix, columnDivision, sylvester, scalarDerivative, rootDerivative, frechetSqrtM}
+use Rattle.functions_definitions.specs.Reports.{luReport, rootReport, rootDerivativeReport, frechetSqrtReport}
+use Rattle.functions_definitions.proofs.GatheredLaws.{followed-as}
 use Rattle.functions_roots.specs.Kernels.{systemSlots, SystemSolved, whereAccepted, derivedSlots, Derived}
 
 -- ---- the system is written
@@ -126,13 +132,13 @@ module _ (f : Format) (n : ℕ) (w₀ : List Float) (r : Room n w₀) where
     answered : Option (List Float) → Result (List Float)
     answered z = orNotConverged z >>= λ x. done 0 (transposeM n x)
 
-    solution : (answered (whereFactored o (slot n w3 7)) ≡ sylvester f n (slot n w₀ 0) (slot n w₀ 6)) × Only (member derivedSlots) w₀ w3
+    solution : (answered (whereFactored o (slot n w3 7)) ≡ sylvester f n (slot n w₀ 0) (slot n w₀ 6)) × Only (member derivedSlots) w₀ w3 × (slot (n * n) w2 8 ≡ sylvesterMatrix f n (slot n w₀ 0))
     unfolding sylvester answered matrix
     solution =
         let s1 = step-store 8 (sylvesterMatrix f n (slot n w₀ 0)) matrix (start (member derivedSlots) n r) e1 refl (length-sylvesterMatrix f n (slot n w₀ 0)) (omega (arith, mul-le-mul h h)) refl refl in
         let s2 = step-transpose n (r .order) 6 7 s1 e2 refl refl refl in
         let s3 = step-call systemSlots s2 (Q .only) (member-among (member derivedSlots) systemSlots refl) in
-        (ap (λ (z : Option (List Float)). orNotConverged z >>= λ x. done 0 (transposeM n x)) (Q .result ∙ (λ i. columnDivision f (n * n) (held-at 8 (n * n) s2 refl i) (held-at 7 n s2 refl i))), s3 .only)
+        (ap (λ (z : Option (List Float)). orNotConverged z >>= λ x. done 0 (transposeM n x)) (Q .result ∙ (λ i. columnDivision f (n * n) (held-at 8 (n * n) s2 refl i) (held-at 7 n s2 refl i))), s3 .only, held-at 8 (n * n) s2 refl)
 
     pub sylvester-solved : (w4 : List Float) → o ≡ Factored → w4 ≡ store w3 1 (transposeM n (slot n w3 7)) → Derived n (sylvester f n (slot n w₀ 0) (slot n w₀ 6)) true w₀ w4
     unfolding answered _>>=_
@@ -143,6 +149,11 @@ module _ (f : Format) (n : ℕ) (w₀ : List Float) (r : Room n w₀) where
           result = ap (done 0) (held-at 1 n s4 refl) ∙ ap (λ (z : LuOutcome). answered (whereFactored z (slot n w3 7))) (sym eo) ∙ solution .0;
           only = only-trans (solution .1) (s4 .only);
         }
+
+    -- one factoring, of the system's matrix
+    pub sylvester-reported : (v : Float) (ρ : Report) → v ≡ smallestPivot f (n * n) (slot (n * n) w2 8) → ρ ≡ factored v → ρ ≡ luReport f (n * n) (sylvesterMatrix f n (slot n w₀ 0))
+    unfolding luReport
+    sylvester-reported v ρ ev e = e ∙ ap factored (ev ∙ ap (smallestPivot f (n * n)) (solution .2))
 
     pub sylvester-refused : (k : ℕ) → o ≡ Singular k → Derived n (sylvester f n (slot n w₀ 0) (slot n w₀ 6)) false w₀ w3
     unfolding answered _>>=_
@@ -164,6 +175,15 @@ module _ (f : Format) (n : ℕ) (w₀ : List Float) (r : Room n w₀) where
   unfolding rootDerivative
   derived-above b w1 h D = rw (ne-eqb n 1 h) D
 
+  -- at order 1 nothing is factored
+  pub derived-none : (ρ : Report) → n ≡ 1 → ρ ≡ nothing → ρ ≡ rootDerivativeReport f n (slot n w₀ 0)
+  unfolding rootDerivativeReport
+  derived-none ρ e h = rw e h
+
+  pub derived-system : (ρ : Report) → (n ≡ 1 → ⊥) → ρ ≡ luReport f (n * n) (sylvesterMatrix f n (slot n w₀ 0)) → ρ ≡ rootDerivativeReport f n (slot n w₀ 0)
+  unfolding rootDerivativeReport
+  derived-system ρ e h = rw (ne-eqb n 1 e) h
+
 -- ---- the root and its derivative
 
 abbrev rootSlots : List ℕ
@@ -176,9 +196,9 @@ module _ (f : Format) (n : ℕ) (w₀ : List Float) (r : Room n w₀) (w1 : List
   wide : Only (member bothSlots) w₀ w1
   wide = only-more (member-among (member bothSlots) rootSlots refl) (R .only)
 
-  pub root-refused-both : (y : Refusal) → o ≡ Refused y → ReplacedBoth bothSlots n (frechetSqrtM f n (slot n w₀ 0) (slot n w₀ 6)) (Refused y) w₀ w1
+  pub root-refused-both : (p : Outcome) (y : Refusal) → o ≡ Refused y → reported p ≡ numbered y → ReplacedBoth bothSlots n (frechetSqrtM f n (slot n w₀ 0) (slot n w₀ 6)) p w₀ w1
   unfolding frechetSqrtM
-  root-refused-both y e = both-refused (squareRoot f n (slot n w₀ 0)) _ bothSlots n o y w₀ w1 (R .outcome) e wide
+  root-refused-both p y e ep = both-refused (squareRoot f n (slot n w₀ 0)) _ bothSlots n o p y w₀ w1 (R .outcome) e ep wide
 
   module _ (s : ℕ) (b : Bool) (w2 : List Float) (eo : o ≡ Done s) (D : Derived n (rootDerivative f n (slot n w1 0) (slot n w1 6)) b w1 w2) where
     -- what follows the root
@@ -208,8 +228,17 @@ module _ (f : Format) (n : ℕ) (w₀ : List Float) (r : Room n w₀) (w1 : List
         let x : rootDerivative f n (slot n w1 0) (slot n w₀ 6) ≡ done 0 (slot n w2 1) = sym (ap (λ (z : Bool). whereAccepted z (slot n w2 1)) (sym e) ∙ made) in
         after-root (Done 0) (rw x (record { outcome = refl; value = kept; derivative = refl; only = narrow }))
 
-    pub derivative-refused : b ≡ false → ReplacedBoth bothSlots n (frechetSqrtM f n (slot n w₀ 0) (slot n w₀ 6)) (Refused NotConverged) w₀ w2
+    pub derivative-refused : (p : Outcome) → b ≡ false → reported p ≡ refused 13 0 0 → ReplacedBoth bothSlots n (frechetSqrtM f n (slot n w₀ 0) (slot n w₀ 6)) p w₀ w2
     unfolding follows _>>=_ outcome exit
-    derivative-refused e =
+    derivative-refused p e ep =
         let x : rootDerivative f n (slot n w1 0) (slot n w₀ 6) ≡ refused 13 0 0 = sym (ap (λ (z : Bool). whereAccepted z (slot n w2 1)) (sym e) ∙ made) in
-        after-root (Refused NotConverged) (rw x (record { outcome = refl; value = refl; derivative = refl; only = narrow }))
+        after-root p (rw x (record { outcome = ep; value = refl; derivative = refl; only = narrow }))
+
+    -- the root reports ρ₁ and the derivative ρ₂
+    pub derivative-reported : (ρ₁ ρ₂ ρ : Report) → ρ₁ ≡ reportAt (squareRoot f n (slot n w₀ 0)) (rootReport f n (slot n w₀ 0)) → ρ₂ ≡ rootDerivativeReport f n (slot n w1 0) → ρ ≡ beside ρ₁ ρ₂
+        → ρ ≡ frechetSqrtReport f n (slot n w₀ 0)
+    unfolding frechetSqrtReport
+    derivative-reported ρ₁ ρ₂ ρ e₁ e₂ e =
+        let a = report-of (squareRoot f n (slot n w₀ 0)) (rootReport f n (slot n w₀ 0)) ρ₁ o s eo (R .outcome) e₁ in
+        e ∙ (λ i. beside (a i) (e₂ i))
+        ∙ sym (followed-as (squareRoot f n (slot n w₀ 0)) (rootReport f n (slot n w₀ 0)) (rootDerivativeReport f n) s (slot n w1 0) (sym (ap reported eo) ∙ R .outcome) (R .result))

@@ -15,15 +15,20 @@ use Rattle.arithmetic_matrices.specs.Norm.{normOfDifference}
 use Rattle.arithmetic_matrices.specs.Workspace.{Room, slot, store, member, Only}
 use Rattle.arithmetic_questions.specs.Result.{Result, done, refused, _>>=_, outcome, exit}
 use Rattle.arithmetic_questions.specs.Kernels.{Replaced}
-use Rattle.arithmetic_questions.specs.declared.answer.Outcome.the-variants.{Done, Refused}
-use Rattle.arithmetic_questions.specs.declared.answer.Refusal.the-variants.{NotConverged}
+use Rattle.arithmetic_questions.specs.Answers.{reported}
+use Rattle.arithmetic_questions.specs.Reports.{nothing, factored, beside}
+use Rattle.arithmetic_questions.specs.declared.answer.Outcome.{Outcome}
+use Rattle.arithmetic_questions.specs.declared.answer.Outcome.the-variants.{Done}
+use Rattle.arithmetic_questions.specs.declared.answer.Report.{Report}
 use Rattle.arithmetic_matrices.proofs.Slots.{only-trans, only-more, only-store, slot-store}
 use Rattle.arithmetic_matrices.proofs.States.{start, step-mean, step-copy, step-call, step-identity, held-at, member-among}
 use Rattle.lu_factoring.specs.declared.LuOutcome.{LuOutcome}
 use Rattle.lu_factoring.specs.declared.LuOutcome.the-variants.{Factored, Singular}
+use Rattle.lu_factoring.specs.Pivots.{smallestPivot}
 use Rattle.lu_factoring.specs.Solve.{division, inverse, whereFactored}
-use Rattle.functions_definitions.specs.Iterate.{after, verdict, ended}
+use Rattle.functions_definitions.specs.Iterate.{after, verdict, ended, gathered}
 use Rattle.functions_definitions.specs.Roots.{rootTolerance, passLimit, Pair, denmanBeaversNext, denmanBeaversStep, denmanBeavers, squareRoot}
+use Rattle.functions_definitions.specs.Reports.{luReport, pairReport, rootReport}
 use Rattle.functions_roots.specs.Kernels.{asStep, tested, answered, OnePass, Passes, SlotQuotient, pairIn, Means, SecondInverse}
 use Rattle.functions_roots.specs.declared.pass.Pass.{Pass}
 use Rattle.functions_roots.specs.declared.pass.Pass.the-variants.{Failed}
@@ -58,13 +63,13 @@ module _ (f : Format) (n : ℕ) (w₀ : List Float) (r : Room n w₀) where
 
   -- 1 / y, and the means; or y is refused
   module _ (w1 w2 w3 : List Float) (o : LuOutcome) (e1 : w1 ≡ store w₀ 2 (slot n w₀ 0)) (e2 : w2 ≡ store w1 4 (identityM n)) (Q : SlotQuotient f n 4 o w2 w3) where
-    second-solved : (pairIn n w3 ≡ pairIn n w₀) × (slot n w3 3 ≡ slot n w₀ 3) × (whereFactored o (slot n w3 4) ≡ inverse f n (slot n w₀ 0)) × Only (member later) w₀ w3
+    second-solved : (pairIn n w3 ≡ pairIn n w₀) × (slot n w3 3 ≡ slot n w₀ 3) × (whereFactored o (slot n w3 4) ≡ inverse f n (slot n w₀ 0)) × Only (member later) w₀ w3 × (slot n w2 2 ≡ slot n w₀ 0)
     unfolding inverse
     second-solved =
         let s1 = step-copy n (r .order) 0 2 (start (member later) n r) e1 refl refl refl in
         let s2 = step-identity n (r .order) 4 s1 e2 refl refl in
         let s3 = step-call (2 ∷ 4 ∷ []) s2 (Q .only) (member-among (member later) (2 ∷ 4 ∷ []) refl) in
-        (λ i. record { y = held-at 0 n s3 refl i; z = held-at 1 n s3 refl i }, held-at 3 n s3 refl, Q .result ∙ (λ i. division f n (held-at 2 n s2 refl i) (held-at 4 n s2 refl i)), s3 .only)
+        (λ i. record { y = held-at 0 n s3 refl i; z = held-at 1 n s3 refl i }, held-at 3 n s3 refl, Q .result ∙ (λ i. division f n (held-at 2 n s2 refl i) (held-at 4 n s2 refl i)), s3 .only, held-at 2 n s2 refl)
 
     pub second-passed : (w4 : List Float) (p : Pass) → o ≡ Factored → Means f n p w3 w4 → SecondInverse f n p w₀ w4
     second-passed w4 p eo M =
@@ -80,15 +85,20 @@ module _ (f : Format) (n : ℕ) (w₀ : List Float) (r : Room n w₀) where
         let q : none ≡ inverse f n (slot n w₀ 0) = ap (λ (z : LuOutcome). whereFactored z (slot n w3 4)) (sym eo) ∙ second-solved .2 in
         record { step = ap (denmanBeaversNext f n (pairIn n w₀) (some (slot n w₀ 3))) q; only = second-solved .3 }
 
+    -- it factors y
+    pub second-reported : (v : Float) (ρ : Report) → v ≡ smallestPivot f n (slot n w2 2) → ρ ≡ factored v → ρ ≡ luReport f n (slot n w₀ 0)
+    unfolding luReport
+    second-reported v ρ ev e = e ∙ ap factored (ev ∙ ap (smallestPivot f n) (second-solved .4))
+
   -- 1 / z, and the rest of the pass; or z is refused
   module _ (w1 w2 w3 : List Float) (o : LuOutcome) (e1 : w1 ≡ store w₀ 2 (slot n w₀ 1)) (e2 : w2 ≡ store w1 3 (identityM n)) (Q : SlotQuotient f n 3 o w2 w3) where
-    first-solved : (pairIn n w3 ≡ pairIn n w₀) × (whereFactored o (slot n w3 3) ≡ inverse f n (slot n w₀ 1)) × Only (member used) w₀ w3
+    first-solved : (pairIn n w3 ≡ pairIn n w₀) × (whereFactored o (slot n w3 3) ≡ inverse f n (slot n w₀ 1)) × Only (member used) w₀ w3 × (slot n w2 2 ≡ slot n w₀ 1)
     unfolding inverse
     first-solved =
         let s1 = step-copy n (r .order) 1 2 (start (member used) n r) e1 refl refl refl in
         let s2 = step-identity n (r .order) 3 s1 e2 refl refl in
         let s3 = step-call (2 ∷ 3 ∷ []) s2 (Q .only) (member-among (member used) (2 ∷ 3 ∷ []) refl) in
-        (λ i. record { y = held-at 0 n s3 refl i; z = held-at 1 n s3 refl i }, Q .result ∙ (λ i. division f n (held-at 2 n s2 refl i) (held-at 3 n s2 refl i)), s3 .only)
+        (λ i. record { y = held-at 0 n s3 refl i; z = held-at 1 n s3 refl i }, Q .result ∙ (λ i. division f n (held-at 2 n s2 refl i) (held-at 3 n s2 refl i)), s3 .only, held-at 2 n s2 refl)
 
     pub root-passed : (w4 : List Float) (p : Pass) → o ≡ Factored → SecondInverse f n p w3 w4 → OnePass (denmanBeaversStep f n) (pairIn n) used p w₀ w4
     unfolding denmanBeaversStep
@@ -105,25 +115,41 @@ module _ (f : Format) (n : ℕ) (w₀ : List Float) (r : Room n w₀) where
         let q : none ≡ inverse f n (slot n w₀ 1) = ap (λ (z : LuOutcome). whereFactored z (slot n w3 3)) (sym eo) ∙ first-solved .1 in
         record { step = ap (λ (v : Option (List Float)). denmanBeaversNext f n (pairIn n w₀) v (inverse f n (slot n w₀ 0))) q; only = first-solved .2 }
 
+    -- it factors z and then y
+    pub pair-reported : (v : Float) (ρ₁ ρ₂ ρ : Report) → v ≡ smallestPivot f n (slot n w2 2) → ρ₁ ≡ factored v → ρ₂ ≡ luReport f n (slot n w3 0) → ρ ≡ beside ρ₁ ρ₂ → ρ ≡ pairReport f n (pairIn n w₀)
+    unfolding pairReport luReport
+    pair-reported v ρ₁ ρ₂ ρ ev a b e =
+        let z = a ∙ ap factored (ev ∙ ap (smallestPivot f n) (first-solved .3)) in
+        let y = b ∙ ap (λ (p : Pair). luReport f n (p .y)) (first-solved .0) in
+        e ∙ (λ i. beside (z i) (y i))
+
   -- ---- the square root: at order 1, and by the passes
 
-  number : (v : Float) (w1 : List Float) → v ≡ sqrtOf f (item w₀ 0) → w1 ≡ set w₀ 0 v → Replaced used 1 (squareRoot f 1 (slot 1 w₀ 0)) (Done 0) w₀ w1
+  number : (v : Float) (w1 : List Float) (o : Outcome) → v ≡ sqrtOf f (item w₀ 0) → w1 ≡ set w₀ 0 v → reported o ≡ done 0 tt → Replaced used 1 (squareRoot f 1 (slot 1 w₀ 0)) o w₀ w1
   unfolding squareRoot slot part tab store put outcome exit
-  number v w1 ev ew = record {
-    outcome = refl;
+  number v w1 o ev ew eo = record {
+    outcome = eo;
     result = ap (λ (w : List Float). slot 1 w 0) ew ∙ slot-store 1 w₀ 0 (v ∷ []) refl (omega (arith, r .space)) ∙ ap (λ (x : Float). x ∷ []) ev;
     only = rw ew (only-store (member used) w₀ 0 (v ∷ []) refl (omega arith));
   }
 
-  pub root-number : (v : Float) (w1 : List Float) → n ≡ 1 → v ≡ sqrtOf f (item w₀ 0) → w1 ≡ set w₀ 0 v → Replaced used n (squareRoot f n (slot n w₀ 0)) (Done 0) w₀ w1
-  root-number v w1 e ev ew = rw e (number v w1 ev ew)
+  pub root-number : (v : Float) (w1 : List Float) (o : Outcome) → n ≡ 1 → v ≡ sqrtOf f (item w₀ 0) → w1 ≡ set w₀ 0 v → reported o ≡ done 0 tt → Replaced used n (squareRoot f n (slot n w₀ 0)) o w₀ w1
+  root-number v w1 o e ev ew eo = rw e (number v w1 o ev ew eo)
+
+  pub number-reported : (ρ : Report) → n ≡ 1 → ρ ≡ nothing → ρ ≡ rootReport f n (slot n w₀ 0)
+  unfolding rootReport
+  number-reported ρ e h = rw e h
 
   module _ (w1 w2 : List Float) (p : Pass) (two : n ≡ 1 → ⊥) (e1 : w1 ≡ store w₀ 1 (identityM n)) (P : Passes (λ _. denmanBeaversStep f n) passLimit (pairIn n) used p w1 w2) where
-    passes : asStep p (pairIn n w2) ≡ denmanBeavers f n (slot n w₀ 0) passLimit
+    -- the states are those of the definition
+    states : after (λ _. denmanBeaversStep f n) (pairIn n w1) ≡ denmanBeavers f n (slot n w₀ 0)
     unfolding denmanBeavers
-    passes =
+    states =
         let s1 = step-identity n (r .order) 1 (start (member used) n r) e1 refl refl in
-        P .step ∙ (λ i. after (λ _. denmanBeaversStep f n) (record { y = held-at 0 n s1 refl i; z = held-at 1 n s1 refl i }) passLimit)
+        λ i. after (λ _. denmanBeaversStep f n) (record { y = held-at 0 n s1 refl i; z = held-at 1 n s1 refl i })
+
+    passes : asStep p (pairIn n w2) ≡ denmanBeavers f n (slot n w₀ 0) passLimit
+    passes = P .step ∙ (λ i. states i passLimit)
 
     changed : Only (member used) w₀ w2
     changed = only-trans (step-identity n (r .order) 1 (start (member used) n r) e1 refl refl .only) (P .only)
@@ -139,8 +165,12 @@ module _ (f : Format) (n : ℕ) (w₀ : List Float) (r : Room n w₀) where
         let x : done 0 (slot n w2 0) ≡ squareRoot f n (slot n w₀ 0) = ended-as (done 0 (pairIn n w2)) (answers-ended p (pairIn n w2) e) in
         record { outcome = ap outcome x; result = ap (λ (z : Result (List Float)). exit (λ v. v) z (slot n w2 0)) x; only = changed }
 
-    pub root-refused : answered p ≡ false → Replaced used n (squareRoot f n (slot n w₀ 0)) (Refused NotConverged) w₀ w2
+    pub root-refused : (o : Outcome) → answered p ≡ false → reported o ≡ refused 13 0 0 → Replaced used n (squareRoot f n (slot n w₀ 0)) o w₀ w2
     unfolding outcome exit _>>=_
-    root-refused e =
+    root-refused o e eo =
         let x : refused 13 0 0 ≡ squareRoot f n (slot n w₀ 0) = ended-as (refused 13 0 0) (fails-ended p (pairIn n w2) e) in
-        record { outcome = ap outcome x; result = ap (λ (z : Result (List Float)). exit (λ v. v) z (slot n w2 0)) x; only = changed }
+        record { outcome = eo ∙ ap outcome x; result = ap (λ (z : Result (List Float)). exit (λ v. v) z (slot n w2 0)) x; only = changed }
+
+    pub root-reported : (ρ : Report) → ρ ≡ gathered beside nothing (pairReport f n) (after (λ _. denmanBeaversStep f n) (pairIn n w1)) passLimit → ρ ≡ rootReport f n (slot n w₀ 0)
+    unfolding rootReport
+    root-reported ρ h = rw (ne-eqb n 1 two) (h ∙ (λ i. gathered beside nothing (pairReport f n) (states i) passLimit))

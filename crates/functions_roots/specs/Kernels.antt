@@ -8,12 +8,15 @@ use lib.Ieee.{Float, Format}
 use Rattle.arithmetic_matrices.specs.Workspace.{slot, member, Only}
 use Rattle.lu_factoring.specs.declared.LuOutcome.{LuOutcome}
 use Rattle.lu_factoring.specs.Solve.{division, inverse, whereFactored}
-use Rattle.functions_definitions.specs.Iterate.{Step, running, stopped, failed, after}
+use Rattle.functions_definitions.specs.Iterate.{Step, running, stopped, failed, after, gathered}
 use Rattle.functions_definitions.specs.Roots.{passLimit, newtonNext, newton, Pair, denmanBeaversNext}
 use Rattle.functions_definitions.specs.Derivatives.{columnDivision}
 use Rattle.functions_roots.specs.declared.pass.Pass.{Pass}
+use Rattle.functions_roots.specs.declared.pass.Passed.{Passed}
 use Rattle.functions_roots.specs.declared.pass.Pass.the-variants.{Running, Stopped, Failed}
 use Rattle.arithmetic_questions.specs.Result.{Result, refused, done}
+use Rattle.arithmetic_questions.specs.Reports.{nothing, beside}
+use Rattle.arithmetic_questions.specs.declared.answer.Report.{Report}
 
 -- ---- the passes of an iteration
 
@@ -43,6 +46,20 @@ pub record OnePass {S : Type 0} (g : S → Step S) (read : List Float → S) (ss
 pub record Passes {S : Type 0} (g : ℕ → S → Step S) (count : ℕ) (read : List Float → S) (ss : List ℕ) (r : Pass) (w w′ : List Float) : Type 0 where
   pub step : asStep r (read w′) ≡ after g (read w) count
   pub only : Only (member ss) w w′
+
+-- r reports v where it has a result
+abbrev pub Reports : Passed → Report → Type 0
+Reports r v = answered (r .pass) ≡ true → r .report ≡ v
+
+-- one pass that reports h of the state it starts from
+pub record ReportedPass {S : Type 0} (g : S → Step S) (h : S → Report) (read : List Float → S) (ss : List ℕ) (r : Passed) (w w′ : List Float) : Type 0 where
+  pub passed : OnePass g read ss (r .pass) w w′
+  pub reports : Reports r (h (read w))
+
+-- at most `count` such passes, which report what each of them does
+pub record ReportedPasses {S : Type 0} (g : ℕ → S → Step S) (h : S → Report) (count : ℕ) (read : List Float → S) (ss : List ℕ) (r : Passed) (w w′ : List Float) : Type 0 where
+  pub passed : Passes g count read ss (r .pass) w w′
+  pub reports : Reports r (gathered beside nothing h (after g (read w)) count)
 
 -- ---- a division in an iteration: the matrix of order n in slot 2 is factored in place
 

@@ -1,8 +1,11 @@
 // The public calls of the square root. Each asks its questions first.
+ghost use mathlib.Core.Path.{_≡_};
 ghost use lib.ListN.{length};
 ghost use lib.Ieee.{binary64};
 ghost use Rattle.arithmetic_questions.specs.Outputs.{OneOutputIn, OneOutputWith, TwoOutputsIn, TwoOutputsWith};
+ghost use Rattle.arithmetic_questions.specs.Reports.{reportAt};
 ghost use Rattle.functions_definitions.specs.Calls.{frechetSqrtm, sqrtm as sqrtmOf};
+ghost use Rattle.functions_definitions.specs.Reports.{rootReport, frechetSqrtReport};
 use crate::root_derivative::frechet_sqrtm_in;
 use crate::square_root::sqrtm_in;
 use arithmetic_matrices::workspace::copy_in;
@@ -24,13 +27,14 @@ pub fn sqrtm_with(
     clears: bool,
 ) -> Answer
     ensures { λ r. ⌜ OneOutputWith clears (sqrtmOf binary64 rows columns (now (a .entry)) (length (now (out .entry))) (length (now (w .entry)))) (r .outcome) (now (out .entry)) (now (out .exit)) (now (w .entry)) (now (w .exit)) ⌝ }
+    ensures { λ r. ⌜ r .report ≡ reportAt (sqrtmOf binary64 rows columns (now (a .entry)) (length (now (out .entry))) (length (now (w .entry)))) (rootReport binary64 rows (now (a .entry))) ⌝ }
 {
     match ask_sqrtm(rows, columns, a, out.len(), w.len()) {
         Question::No(why) => refused(why),
         Question::Passed => {
             copy_in(w, 0, a);
-            let outcome = sqrtm_in(w, rows);
-            deliver(outcome, out, w, clears)
+            let answer = sqrtm_in(w, rows);
+            deliver(answer, out, w, clears)
         }
     }
 }
@@ -38,6 +42,7 @@ pub fn sqrtm_with(
 // The square root of the matrix a is written to out.
 pub fn sqrtm(rows: usize, columns: usize, a: &[f64], out: &mut [f64], w: &mut [f64]) -> Answer
     ensures { λ r. ⌜ OneOutputIn (sqrtmOf binary64 rows columns (now (a .entry)) (length (now (out .entry))) (length (now (w .entry)))) (r .outcome) (now (out .entry)) (now (out .exit)) (now (w .entry)) (now (w .exit)) ⌝ }
+    ensures { λ r. ⌜ r .report ≡ reportAt (sqrtmOf binary64 rows columns (now (a .entry)) (length (now (out .entry))) (length (now (w .entry)))) (rootReport binary64 rows (now (a .entry))) ⌝ }
 {
     sqrtm_with(rows, columns, a, out, w, true)
 }
@@ -56,6 +61,7 @@ pub fn frechet_sqrtm_with(
     clears: bool,
 ) -> Answer
     ensures { λ r. ⌜ TwoOutputsWith clears (frechetSqrtm binary64 rows columns (now (a .entry)) height width (now (e .entry)) (length (now (first .entry))) (length (now (second .entry))) (length (now (w .entry)))) (r .outcome) (now (first .entry)) (now (first .exit)) (now (second .entry)) (now (second .exit)) (now (w .entry)) (now (w .exit)) ⌝ }
+    ensures { λ r. ⌜ r .report ≡ reportAt (frechetSqrtm binary64 rows columns (now (a .entry)) height width (now (e .entry)) (length (now (first .entry))) (length (now (second .entry))) (length (now (w .entry)))) (frechetSqrtReport binary64 rows (now (a .entry))) ⌝ }
 {
     match ask_frechet_sqrtm(
         rows,
@@ -72,8 +78,8 @@ pub fn frechet_sqrtm_with(
         Question::Passed => {
             copy_in(w, 0, a);
             copy_in(w, 6, e);
-            let outcome = frechet_sqrtm_in(w, rows);
-            deliver_both(outcome, first, second, w, clears)
+            let answer = frechet_sqrtm_in(w, rows);
+            deliver_both(answer, first, second, w, clears)
         }
     }
 }
@@ -91,6 +97,7 @@ pub fn frechet_sqrtm(
     w: &mut [f64],
 ) -> Answer
     ensures { λ r. ⌜ TwoOutputsIn (frechetSqrtm binary64 rows columns (now (a .entry)) height width (now (e .entry)) (length (now (first .entry))) (length (now (second .entry))) (length (now (w .entry)))) (r .outcome) (now (first .entry)) (now (first .exit)) (now (second .entry)) (now (second .exit)) (now (w .entry)) (now (w .exit)) ⌝ }
+    ensures { λ r. ⌜ r .report ≡ reportAt (frechetSqrtm binary64 rows columns (now (a .entry)) height width (now (e .entry)) (length (now (first .entry))) (length (now (second .entry))) (length (now (w .entry)))) (frechetSqrtReport binary64 rows (now (a .entry))) ⌝ }
 {
     frechet_sqrtm_with(rows, columns, a, height, width, e, first, second, w, true)
 }

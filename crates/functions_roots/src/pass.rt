@@ -5,12 +5,19 @@ ghost use Rattle.arithmetic_floats.specs.Root.{sqrtOf};
 ghost use Rattle.functions_definitions.specs.Roots.{rootTolerance};
 ghost use Rattle.functions_roots.specs.Kernels.{tested, answered};
 use arithmetic_floats::root::sqrt;
+use arithmetic_questions::answer::Report;
 
 // What a pass makes of its iteration.
 pub enum Pass {
     Running,
     Stopped,
     Failed,
+}
+
+// What a pass, or several, make of their iteration, and what they report. After a failure the report does not matter.
+pub struct Passed {
+    pub pass: Pass,
+    pub report: Report,
 }
 
 // A root's pass is the last where the Frobenius norm of the change, the root of `sum`, is below 100 * 2^-52.

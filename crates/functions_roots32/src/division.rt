@@ -4,18 +4,20 @@ ghost use mathlib.Core.Bool.{false};
 ghost use Prim.Native.Nat.{_<_};
 ghost use lib.Dec.{eqb};
 ghost use lib.Ieee.{binary32};
-ghost use Rattle.arithmetic_matrices.specs.Workspace.{Room};
+ghost use Rattle.arithmetic_matrices.specs.Workspace.{Room, slot};
+ghost use Rattle.lu_factoring.specs.Pivots.{smallestPivot};
 ghost use Rattle.functions_roots.specs.Kernels.{SlotQuotient};
-use lu_factoring::LuOutcome;
 use lu_factoring::room::pivot_room;
-use lu_systems32::workspace::divide;
+use lu_systems32::workspace::Division;
+use lu_systems32::workspace::divide_reporting;
 
 // The matrix of order n in slot 2 is factored, and where all its columns pass slot x becomes the quotient of its own matrix by it.
-pub fn divide_slot(w: &mut [f32], x: usize, n: usize) -> LuOutcome
+pub fn divide_slot(w: &mut [f32], x: usize, n: usize) -> Division
     requires { ⌜ Room n (now w) ⌝ }
     requires { ⌜ (x < 32) × (eqb 2 x ≡ false) ⌝ }
-    ensures { λ r. ⌜ SlotQuotient binary32 n x r (now (w .entry)) (now (w .exit)) ⌝ }
+    ensures { λ r. ⌜ SlotQuotient binary32 n x (r .outcome) (now (w .entry)) (now (w .exit)) ⌝ }
+    ensures { λ r. ⌜ r .smallest ≡ smallestPivot binary32 n (slot n (now (w .entry)) 2) ⌝ }
 {
     let mut rows = pivot_room();
-    divide(w, 512, 256 * x, n, n, &mut rows[..n])
+    divide_reporting(w, 512, 256 * x, n, n, &mut rows[..n])
 }

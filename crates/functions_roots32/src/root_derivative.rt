@@ -1,24 +1,41 @@
 // The derivative of the square root, in a workspace: the root S stands in slot 0 and the direction E in slot 6. The derivative goes to slot 1. The system
 // S X + X S' = E of order n * n stands from slot 8 on, and its right-hand column in slot 7.
 ghost use mathlib.Core.Path.{_≡_};
+ghost use mathlib.Core.Bool.{true};
 ghost use mathlib.Core.List.{_∷_};
 ghost use Prim.Native.Nat.{_*_, _≤_};
 ghost use lib.ListN.{length};
 ghost use lib.Ieee.{binary32};
 ghost use Rattle.arithmetic_matrices.specs.Workspace.{Room, slot, store};
 ghost use Rattle.arithmetic_questions.specs.Kernels.{ReplacedBoth};
+ghost use Rattle.arithmetic_questions.specs.Reports.{reportAt};
+ghost use Rattle.lu_factoring.specs.Pivots.{smallestPivot};
 ghost use Rattle.functions_definitions.specs.Derivatives.{sylvesterMatrix, scalarDerivative, rootDerivative, frechetSqrtM, sylvester as sylvesterOf};
+ghost use Rattle.functions_definitions.specs.Reports.{luReport, rootDerivativeReport, frechetSqrtReport};
 ghost use Rattle.functions_roots.specs.Kernels.{SystemSolved, Derived, derivedSlots};
 use crate::square_root::sqrtm_in;
 use crate::sylvester::sylvester_into;
 use arithmetic_matrices32::workspace::copy_out;
 use arithmetic_matrices32::workspace::small_room;
 use arithmetic_matrices32::workspace::transpose;
+use arithmetic_questions::answer::Answer;
 use arithmetic_questions::answer::Outcome;
 use arithmetic_questions::answer::Refusal;
+use arithmetic_questions::answer::Report;
+use arithmetic_questions::answer::beside;
+use arithmetic_questions::answer::nothing;
+use arithmetic_questions::answer::refused;
+use arithmetic_questions32::report::factored;
 use lu_factoring::LuOutcome;
 use lu_factoring::room::pivot_room;
-use lu_systems32::workspace::divide;
+use lu_systems32::workspace::Division;
+use lu_systems32::workspace::divide_reporting;
+
+// Whether LU accepts the system of a derivative, and what its factoring reports. After a refusal the report does not matter.
+struct Derivation {
+    accepted: bool,
+    report: Report,
+}
 
 // The system's matrix is written from slot 8 on. s is room for S.
 fn fill_system(w: &mut [f32], n: usize, s: &mut [f32])
@@ -41,29 +58,39 @@ fn load_system(w: &mut [f32], n: usize)
 }
 
 // The right-hand column becomes the solution, where LU accepts the system's matrix.
-fn solve_system(w: &mut [f32], n: usize) -> LuOutcome
+fn solve_system(w: &mut [f32], n: usize) -> Division
     requires { ⌜ (n ≤ 8) × (n * n ≤ 64) × (8192 ≤ length (now w)) ⌝ }
-    ensures { λ r. ⌜ SystemSolved binary32 n r (now (w .entry)) (now (w .exit)) ⌝ }
+    ensures { λ r. ⌜ SystemSolved binary32 n (r .outcome) (now (w .entry)) (now (w .exit)) ⌝ }
+    ensures { λ r. ⌜ r .smallest ≡ smallestPivot binary32 (n * n) (slot (n * n) (now (w .entry)) 8) ⌝ }
 {
     let size = n * n;
     let mut rows = pivot_room();
-    divide(w, 2048, 1792, size, 1, &mut rows[..size])
+    divide_reporting(w, 2048, 1792, size, 1, &mut rows[..size])
 }
 
-// The columns of X, one below the other, are the solution for those of E. Whether LU accepts.
-fn sylvester(w: &mut [f32], n: usize) -> bool
+// The columns of X, one below the other, are the solution for those of E.
+fn sylvester(w: &mut [f32], n: usize) -> Derivation
     requires { ⌜ Room n (now w) ⌝ }
     requires { ⌜ (n ≤ 8) × (n * n ≤ 64) ⌝ }
-    ensures { λ r. ⌜ Derived n (sylvesterOf binary32 n (slot n (now (w .entry)) 0) (slot n (now (w .entry)) 6)) r (now (w .entry)) (now (w .exit)) ⌝ }
+    ensures { λ r. ⌜ Derived n (sylvesterOf binary32 n (slot n (now (w .entry)) 0) (slot n (now (w .entry)) 6)) (r .accepted) (now (w .entry)) (now (w .exit)) ⌝ }
+    ensures { λ r. ⌜ (r .accepted ≡ true → r .report ≡ luReport binary32 (n * n) (sylvesterMatrix binary32 n (slot n (now (w .entry)) 0))) ⌝ }
 {
     load_system(w, n);
     transpose(w, 6, 7, n);
-    match solve_system(w, n) {
+    let d = solve_system(w, n);
+    let outcome = d.outcome;
+    match outcome {
         LuOutcome::Factored => {
             transpose(w, 7, 1, n);
-            true
+            Derivation {
+                accepted: true,
+                report: factored(d.smallest),
+            }
         }
-        LuOutcome::Singular(_) => false,
+        LuOutcome::Singular(_) => Derivation {
+            accepted: false,
+            report: nothing(),
+        },
     }
 }
 
@@ -74,34 +101,44 @@ pub fn scalar_derivative(r: f32, e: f32) -> f32
     if r > 0.0 { e / (2.0 * r) } else { 0.0 }
 }
 
-// The derivative goes to slot 1. Whether LU accepts the system.
-fn derive_root(w: &mut [f32], n: usize) -> bool
+// The derivative goes to slot 1. At order 1 there is no system.
+fn derive_root(w: &mut [f32], n: usize) -> Derivation
     requires { ⌜ Room n (now w) ⌝ }
     requires { ⌜ (n ≤ 8) × (n * n ≤ 64) ⌝ }
-    ensures { λ r. ⌜ Derived n (rootDerivative binary32 n (slot n (now (w .entry)) 0) (slot n (now (w .entry)) 6)) r (now (w .entry)) (now (w .exit)) ⌝ }
+    ensures { λ r. ⌜ Derived n (rootDerivative binary32 n (slot n (now (w .entry)) 0) (slot n (now (w .entry)) 6)) (r .accepted) (now (w .entry)) (now (w .exit)) ⌝ }
+    ensures { λ r. ⌜ (r .accepted ≡ true → r .report ≡ rootDerivativeReport binary32 n (slot n (now (w .entry)) 0)) ⌝ }
 {
     if n == 1 {
         w[256] = scalar_derivative(w[0], w[1536]);
-        return true;
+        return Derivation {
+            accepted: true,
+            report: nothing(),
+        };
     }
     sylvester(w, n)
 }
 
 // The square root goes to slot 0, and its derivative in the direction of slot 6 to slot 1.
-pub fn frechet_sqrtm_in(w: &mut [f32], n: usize) -> Outcome
+pub fn frechet_sqrtm_in(w: &mut [f32], n: usize) -> Answer
     requires { ⌜ Room n (now w) ⌝ }
     requires { ⌜ (n ≤ 8) × (n * n ≤ 64) ⌝ }
-    ensures { λ r. ⌜ ReplacedBoth (0 ∷ 2 ∷ 3 ∷ 4 ∷ 5 ∷ derivedSlots) n (frechetSqrtM binary32 n (slot n (now (w .entry)) 0) (slot n (now (w .entry)) 6)) r (now (w .entry)) (now (w .exit)) ⌝ }
+    ensures { λ r. ⌜ ReplacedBoth (0 ∷ 2 ∷ 3 ∷ 4 ∷ 5 ∷ derivedSlots) n (frechetSqrtM binary32 n (slot n (now (w .entry)) 0) (slot n (now (w .entry)) 6)) (r .outcome) (now (w .entry)) (now (w .exit)) ⌝ }
+    ensures { λ r. ⌜ r .report ≡ reportAt (frechetSqrtM binary32 n (slot n (now (w .entry)) 0) (slot n (now (w .entry)) 6)) (frechetSqrtReport binary32 n (slot n (now (w .entry)) 0)) ⌝ }
 {
-    let outcome = sqrtm_in(w, n);
+    let root = sqrtm_in(w, n);
+    let outcome = root.outcome;
     match outcome {
         Outcome::Done { halvings: _ } => {
-            if derive_root(w, n) {
-                Outcome::Done { halvings: 0 }
+            let derivation = derive_root(w, n);
+            if derivation.accepted {
+                Answer {
+                    outcome: Outcome::Done { halvings: 0 },
+                    report: beside(root.report, derivation.report),
+                }
             } else {
-                Outcome::Refused(Refusal::NotConverged)
+                refused(Refusal::NotConverged)
             }
         }
-        Outcome::Refused(why) => Outcome::Refused(why),
+        Outcome::Refused(why) => refused(why),
     }
 }

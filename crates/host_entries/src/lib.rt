@@ -1,9 +1,11 @@
 // The public calls, for a test from outside, which compares all that a caller can see. Rattle has one NaN, so only a caller in another language sees
 // whether a refused call leaves the sign and the payload of the NaNs that it was lent. Each answers the refusal's number, and 0 where the call is done;
-// its report has two numbers: the halvings and 0 where it is done, and both details of a refusal.
+// its report has three numbers: the halvings and 0 where it is done, or both details of a refusal; and the bits of the smallest pivot.
 use arithmetic::Answer;
 use arithmetic::Outcome;
 use arithmetic::Refusal;
+use arithmetic::Report;
+use arithmetic::smallest_bits;
 
 // A place outside the slice is left out.
 fn put(report: &mut [usize], at: usize, x: usize) {
@@ -45,7 +47,8 @@ fn tell_refusal(report: &mut [usize], why: Refusal) -> u64 {
     }
 }
 
-fn tell(report: &mut [usize], outcome: Outcome) -> u64 {
+fn tell(report: &mut [usize], outcome: Outcome, run: Report) -> u64 {
+    put(report, 2, smallest_bits(run) as usize);
     match outcome {
         Outcome::Done { halvings } => told(report, halvings as usize, 0, 0),
         Outcome::Refused(why) => tell_refusal(report, why),
@@ -54,7 +57,8 @@ fn tell(report: &mut [usize], outcome: Outcome) -> u64 {
 
 fn tell_answer(report: &mut [usize], answer: Answer) -> u64 {
     let outcome = answer.outcome;
-    tell(report, outcome)
+    let run = answer.report;
+    tell(report, outcome, run)
 }
 
 #[no_mangle]
@@ -201,7 +205,8 @@ pub extern "C" fn entry_cond_expm(
     put_number(numbers, 1, answer.condition.derivative_norm);
     put_number(numbers, 2, answer.condition.exponential_norm);
     let outcome = answer.outcome;
-    tell(report, outcome)
+    let run = answer.report;
+    tell(report, outcome, run)
 }
 
 #[no_mangle]
@@ -244,7 +249,8 @@ pub extern "C" fn entry_determinant(
     let answer = lu::determinant(m, n, f, pivots);
     put_number(numbers, 0, answer.value);
     let outcome = answer.outcome;
-    tell(report, outcome)
+    let run = answer.report;
+    tell(report, outcome, run)
 }
 
 #[no_mangle]

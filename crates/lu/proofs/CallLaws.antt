@@ -16,18 +16,23 @@ use Rattle.arithmetic_questions.specs.declared.answer.Outcome.{Outcome}
 use Rattle.arithmetic_questions.specs.declared.answer.Question.{Question}
 use Rattle.arithmetic_questions.specs.declared.answer.Question.the-variants.{Passed, No}
 use Rattle.arithmetic_questions.specs.declared.answer.Refusal.{Refusal}
+use Rattle.arithmetic_questions.specs.declared.answer.Report.{Report}
+use Rattle.arithmetic_questions.specs.Reports.{factored, reportAt}
 use Rattle.arithmetic_matrices.proofs.PatchLaws.{patch-all}
-use Rattle.arithmetic_matrices.proofs.PartLaws.{part-put, put-put}
+use Rattle.arithmetic_matrices.proofs.PartLaws.{part-all, part-put, put-put}
 use Rattle.arithmetic_matrices.proofs.Slots.{only-run, cleared-only}
 use Rattle.arithmetic_questions.proofs.AnswerLaws.{answer-passed, outcome-no, exit-no, workspace-no}
+use Rattle.arithmetic_questions.proofs.ReportLaws.{report-as}
 use Rattle.lu_factoring.specs.Lu.{luAt, luPivot, luOutcome, luFactors, luPivots}
-use Rattle.lu_factoring.specs.Kernels.{columnsDone, LuDoneIn}
+use Rattle.lu_factoring.specs.Kernels.{columnsDone, diagonalSmallest, LuDoneIn}
+use Rattle.lu_factoring.specs.Pivots.{smallestPivot}
 use Rattle.lu_factoring.specs.Solve.{standIn}
 use Rattle.lu.specs.Calls.{Factorisation, factorised, compute, computeCall, Computed}
-use Rattle.lu.specs.Kernels.{luReport, FactoredCopy, Computing}
+use Rattle.lu.specs.Kernels.{luResult, FactoredCopy, Computing}
 use Rattle.lu_factoring.specs.declared.LuOutcome.{LuOutcome}
 use Rattle.lu_factoring.specs.declared.LuOutcome.the-variants.{Factored, Singular}
 use Rattle.lu_factoring.proofs.LuLaws.{length-luAt}
+use Rattle.lu_factoring.proofs.PivotLaws.{smallest-read}
 
 module _ (f : Format) (n : ℕ) (a w : List Float) (size : length a ≡ n * n) (room : n * n ≤ length w) where
   -- a copy stands where it was stored, and what replaces it replaces what stood there before
@@ -94,17 +99,32 @@ module _ (f : Format) (rows columns : ℕ) (a : List Float) (fs : List Float) (p
 
   -- none does: LU decides
   pub compute-done : (fs′ : List Float) (ps′ : List ℕ) (w1 w2 : List Float) (r : LuOutcome) → q ≡ Passed → 8192 ≤ length w → Computing f rows a fs fs′ ps ps′ w w1 r
-      → w2 ≡ cleared w1 → reported o ≡ luReport r → Computed (compute f rows columns a ps (length fs) (length w)) o fs fs′ ps ps′ w w2
+      → w2 ≡ cleared w1 → reported o ≡ luResult r → Computed (compute f rows columns a ps (length fs) (length w)) o fs fs′ ps ps′ w w2
   unfolding compute whole outcome exit workspace
   compute-done fs′ ps′ w1 w2 r e room d v k =
       let c = computeCall rows columns a ps (length fs) (length w) in
       rw (answer-passed ofCompute c whole q h e)
-      (go (luOutcome f rows a) (d .factors ∙ ap (λ (z : LuOutcome). standIn z (luFactors f rows a) fs) (d .outcome)) (d .pivots ∙ ap (λ (z : LuOutcome). standIn z (luPivots f rows a) ps) (d .outcome)) (k ∙ ap luReport (d .outcome)))
+      (go (luOutcome f rows a) (d .factors ∙ ap (λ (z : LuOutcome). standIn z (luFactors f rows a) fs) (d .outcome)) (d .pivots ∙ ap (λ (z : LuOutcome). standIn z (luPivots f rows a) ps) (d .outcome)) (k ∙ ap luResult (d .outcome)))
     where
       clear : w2 ≡ cleared w
       clear = v ∙ cleared-only w w1 room (d .only)
 
-      go : (z : LuOutcome) → fs′ ≡ standIn z (luFactors f rows a) fs → ps′ ≡ standIn z (luPivots f rows a) ps → reported o ≡ luReport z
+      go : (z : LuOutcome) → fs′ ≡ standIn z (luFactors f rows a) fs → ps′ ≡ standIn z (luPivots f rows a) ps → reported o ≡ luResult z
           → Computed (factorised z (record { factors = luFactors f rows a; pivotRows = luPivots f rows a })) o fs fs′ ps ps′ w w2
       go Factored p s t = record { outcome = t; factors = p; pivots = s; workspace = clear }
       go (Singular j) p s t = record { outcome = t; factors = p; pivots = s; workspace = clear }
+
+  -- the report: the smallest pivot, which the code reads off the factors that were written
+  pub compute-report : (fs′ : List Float) (ps′ : List ℕ) (w1 : List Float) (r : LuOutcome) (ρ : Report) → length a ≡ rows * rows → Computing f rows a fs fs′ ps ps′ w w1 r
+      → reported o ≡ outcome (compute f rows columns a ps (length fs) (length w)) → reported o ≡ luResult r
+      → ρ ≡ reportAt (luResult r) (factored (diagonalSmallest rows (part fs′ 0 (rows * rows)))) → ρ ≡ reportAt (compute f rows columns a ps (length fs) (length w)) (factored (smallestPivot f rows a))
+  unfolding reportAt exit luFactors
+  compute-report fs′ ps′ w1 r ρ size d h k e =
+      e ∙ go r (d .outcome) (d .factors) ∙ ap (λ (z : Result (Unit {0})). reportAt z (factored (smallestPivot f rows a))) (sym k) ∙ report-as (compute f rows columns a ps (length fs) (length w)) (factored (smallestPivot f rows a)) o h
+    where
+      go : (z : LuOutcome) → z ≡ luOutcome f rows a → fs′ ≡ standIn z (luFactors f rows a) fs
+          → reportAt (luResult z) (factored (diagonalSmallest rows (part fs′ 0 (rows * rows)))) ≡ reportAt (luResult z) (factored (smallestPivot f rows a))
+      go Factored p s =
+          let whole = part-all (luFactors f rows a) (rows * rows) (length-luAt f rows a rows size) in
+          ap factored (ap (λ (l : List Float). diagonalSmallest rows (part l 0 (rows * rows))) s ∙ ap (diagonalSmallest rows) whole ∙ smallest-read f rows a (sym p))
+      go (Singular j) p s = refl

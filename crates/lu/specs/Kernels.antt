@@ -27,7 +27,7 @@ pub record Computing (f : Format) (n : ℕ) (a fs fs′ : List Float) (ps ps′ 
   pub pivots : ps′ ≡ standIn r (luPivots f n a) ps
   pub only : Only (λ s. ltb s 32) w w′
 
--- what `compute` reports of an outcome
-abbrev pub luReport : LuOutcome → Result (Unit {0})
-luReport Factored = done 0 tt
-luReport (Singular k) = refused 14 k 0
+-- what `compute` gives for an outcome, without its outputs
+abbrev pub luResult : LuOutcome → Result (Unit {0})
+luResult Factored = done 0 tt
+luResult (Singular k) = refused 14 k 0

@@ -2,17 +2,21 @@
 ghost use mathlib.Core.Path.{_≡_};
 ghost use mathlib.Core.Bool.{_&&_};
 ghost use mathlib.Core.List.{[], _∷_};
-ghost use Prim.Native.Nat.{_*_};
+ghost use Prim.Native.Nat.{_*_, _≤_};
 ghost use lib.Dec.{eqb, ltb, leb};
+ghost use lib.ListN.{length};
+ghost use Rattle.arithmetic_matrices.specs.Matrix.{part};
 ghost use Rattle.arithmetic_questions.specs.Result.{firstNo, ask as askOf};
 ghost use Rattle.arithmetic_questions.specs.Questions.{atMost, exactly, pivotsFrom, asked, ofCompute, ofSolve, ofDeterminant};
 ghost use Rattle.arithmetic_questions.specs.Answers.{found, reported};
-ghost use Rattle.lu.specs.Kernels.{luReport};
+ghost use Rattle.arithmetic_questions.specs.Reports.{reportAt, factored as factoredWith};
+ghost use Rattle.lu_factoring.specs.Kernels.{diagonalSmallest};
+ghost use Rattle.lu.specs.Kernels.{luResult};
 ghost use Rattle.lu.specs.Calls.{computeCall, solveCall, determinantCall};
 use arithmetic_questions::answer::Answer;
+use arithmetic_questions::answer::Outcome;
 use arithmetic_questions::answer::Question;
 use arithmetic_questions::answer::Refusal;
-use arithmetic_questions::answer::done;
 use arithmetic_questions::answer::refused;
 use arithmetic_questions::question::ask;
 use arithmetic_questions::question::ask_at_most;
@@ -20,7 +24,9 @@ use arithmetic_questions::question::ask_length;
 use arithmetic_questions::question::ask_room;
 use arithmetic_questions::question::ask_square;
 use arithmetic_questions::question::first_no;
+use arithmetic_questions::report::factored;
 use lu_factoring::LuOutcome;
+use lu_factoring::pivots::smallest_pivot;
 
 // Is p, which is pivot k, a row from k to n - 1?
 pub fn names_row(k: usize, p: usize, n: usize) -> bool
@@ -159,12 +165,17 @@ pub fn ask_solve(
     ask_pivots(pivots, rows)
 }
 
-// Question 14: done, or refused by the column that did not pass.
-pub fn answer_of(outcome: LuOutcome) -> Answer
-    ensures { λ r. ⌜ reported (r .outcome) ≡ luReport outcome ⌝ }
+// Question 14: done, with the smallest pivot of the factors of order n, or refused by the column that did not pass.
+pub fn answer_of(outcome: LuOutcome, factors: &[f64], n: usize) -> Answer
+    requires { ⌜ n * n ≤ length (now factors) ⌝ }
+    ensures { λ r. ⌜ reported (r .outcome) ≡ luResult outcome ⌝ }
+    ensures { λ r. ⌜ r .report ≡ reportAt (luResult outcome) (factoredWith (diagonalSmallest n (part (now (factors .entry)) 0 (n * n)))) ⌝ }
 {
     match outcome {
-        LuOutcome::Factored => done(0),
+        LuOutcome::Factored => Answer {
+            outcome: Outcome::Done { halvings: 0 },
+            report: factored(smallest_pivot(factors, 0, n)),
+        },
         LuOutcome::Singular(k) => refused(Refusal::SingularColumn(k)),
     }
 }

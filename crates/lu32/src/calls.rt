@@ -7,9 +7,12 @@ ghost use Rattle.arithmetic_floats.specs.Float.{+zero};
 ghost use Rattle.arithmetic_questions.specs.Answers.{reported};
 ghost use Rattle.arithmetic_questions.specs.Result.{exit, outcome as outcomeOf};
 ghost use Rattle.arithmetic_questions.specs.Outputs.{OneOutput};
+ghost use Rattle.arithmetic_questions.specs.Reports.{reportAt, factored, nothing as nothingReported};
+ghost use Rattle.lu_factoring.specs.Pivots.{smallestPivot};
 ghost use Rattle.lu_factoring.specs.Solve.{solvedMatrix};
 ghost use Rattle.lu.specs.Kernels.{FactoredCopy, Computing};
 ghost use Rattle.lu.specs.Calls.{Computed, compute as computeOf, solve as solveOf, determinant as determinantOf};
+use crate::question::answer_of;
 use crate::question::ask_compute;
 use crate::question::ask_determinant;
 use crate::question::ask_solve;
@@ -20,9 +23,9 @@ use arithmetic_matrices32::workspace::copy_out;
 use arithmetic_questions::answer::Answer;
 use arithmetic_questions::answer::Outcome;
 use arithmetic_questions::answer::Question;
+use arithmetic_questions::answer::Report;
 use arithmetic_questions::answer::done;
 use arithmetic_questions::answer::refused;
-use lu::question::answer_of;
 use lu_factoring::LuOutcome;
 use lu_factoring::room::pivot_room;
 use lu_factoring32::factor::factor_in;
@@ -33,6 +36,7 @@ use lu_substitution32::substitution::solve_rows;
 pub struct DeterminantAnswer {
     pub outcome: Outcome,
     pub value: f32,
+    pub report: Report,
 }
 
 // A copy of the n by n matrix a is factored in w, from slot 0 on.
@@ -92,13 +96,14 @@ pub fn compute(
     w: &mut [f32],
 ) -> Answer
     ensures { λ r. ⌜ Computed (computeOf binary32 rows columns (now (a .entry)) (now (pivots .entry)) (length (now (factors .entry))) (length (now (w .entry)))) (r .outcome) (now (factors .entry)) (now (factors .exit)) (now (pivots .entry)) (now (pivots .exit)) (now (w .entry)) (now (w .exit)) ⌝ }
+    ensures { λ r. ⌜ r .report ≡ reportAt (computeOf binary32 rows columns (now (a .entry)) (now (pivots .entry)) (length (now (factors .entry))) (length (now (w .entry)))) (factored (smallestPivot binary32 rows (now (a .entry)))) ⌝ }
 {
     match ask_compute(rows, columns, a, pivots, factors.len(), w.len()) {
         Question::No(why) => refused(why),
         Question::Passed => {
             let outcome = compute_with_room(rows, a, factors, pivots, w);
             clear(w);
-            answer_of(outcome)
+            answer_of(outcome, factors, rows)
         }
     }
 }
@@ -124,6 +129,7 @@ pub fn solve(
     out: &mut [f32],
 ) -> Answer
     ensures { λ r. ⌜ OneOutput (solveOf binary32 rows columns (now (f .entry)) (now (pivots .entry)) height width (now (b .entry)) (length (now (out .entry)))) (r .outcome) (now (out .entry)) (now (out .exit)) ⌝ }
+    ensures { λ r. ⌜ r .report ≡ reportAt (solveOf binary32 rows columns (now (f .entry)) (now (pivots .entry)) height width (now (b .entry)) (length (now (out .entry)))) nothingReported ⌝ }
 {
     match ask_solve(rows, columns, f, pivots, height, width, b, out.len()) {
         Question::No(why) => refused(why),
@@ -134,19 +140,30 @@ pub fn solve(
     }
 }
 
+// The answer with a value.
+fn valued(answer: Answer, value: f32) -> DeterminantAnswer
+    ensures { λ r. ⌜ (r .outcome ≡ answer .outcome) × (r .value ≡ value) × (r .report ≡ answer .report) ⌝ }
+{
+    let outcome = answer.outcome;
+    let report = answer.report;
+    DeterminantAnswer {
+        outcome,
+        value,
+        report,
+    }
+}
+
 // The determinant of the matrix that has the factors f and the pivots.
 pub fn determinant(rows: usize, columns: usize, f: &[f32], pivots: &[usize]) -> DeterminantAnswer
     ensures { λ r. ⌜ reported (r .outcome) ≡ outcomeOf (determinantOf binary32 rows columns (now (f .entry)) (now (pivots .entry))) ⌝ }
     ensures { λ r. ⌜ r .value ≡ exit (λ d. d) (determinantOf binary32 rows columns (now (f .entry)) (now (pivots .entry))) +zero ⌝ }
+    ensures { λ r. ⌜ r .report ≡ reportAt (determinantOf binary32 rows columns (now (f .entry)) (now (pivots .entry))) nothingReported ⌝ }
 {
     match ask_determinant(rows, columns, f, pivots) {
-        Question::No(why) => DeterminantAnswer {
-            outcome: Outcome::Refused(why),
-            value: 0.0,
-        },
-        Question::Passed => DeterminantAnswer {
-            outcome: Outcome::Done { halvings: 0 },
-            value: lu_substitution32::substitution::determinant(f, rows, pivots),
-        },
+        Question::No(why) => valued(refused(why), 0.0),
+        Question::Passed => {
+            let value = lu_substitution32::substitution::determinant(f, rows, pivots);
+            valued(done(0), value)
+        }
     }
 }

@@ -1,6 +1,7 @@
 -- Laws that the proofs of this crate and of the crates above cite.
 pub mod LuLaws
 pub mod LuLoop
+pub mod PivotLaws
 pub mod SolveLaws
 pub mod SystemLaws
 pub mod RowLaws

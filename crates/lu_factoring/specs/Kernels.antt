@@ -5,7 +5,9 @@ use mathlib.Core.List.{List}
 use lib.Dec.{leb}
 use lib.Ieee.{Float, Format, mul, sub}
 use mathlib.Core.Path.{_≡_}
+use Rattle.arithmetic_floats.specs.Float.{magnitude}
 use Rattle.arithmetic_matrices.specs.Matrix.{at, part, put, grid, item, column}
+use Rattle.arithmetic_matrices.specs.Norm.{smallest}
 use Rattle.arithmetic_matrices.specs.Kernels.{patch}
 use Rattle.lu_factoring.specs.declared.LuOutcome.{LuOutcome}
 use Rattle.lu_factoring.specs.declared.LuOutcome.the-variants.{Factored, Singular}
@@ -50,3 +52,8 @@ divided f n m left right w Factored =
     let a = part w left (n * n) in
     put (put w left (luFactors f n a)) right (solvedMatrix f n m (luFactors f n a) (luPivots f n a) (part w right (n * m)))
 divided f n m left right w (Singular k) = put w left (luAt f n (part w left (n * n)) k)
+
+-- the smallest pivot as the code reads it off the factors m, whose diagonal holds the pivots
+unfoldable pub diagonalSmallest : ℕ → List Float → Float
+unfolding smallest
+diagonalSmallest n m = smallest n (λ k. magnitude (at n m k k))

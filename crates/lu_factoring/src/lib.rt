@@ -1,6 +1,7 @@
 // LU factoring with partial pivoting.
 pub mod factor;
 pub mod part;
+pub mod pivots;
 pub mod room;
 pub mod swap;
 

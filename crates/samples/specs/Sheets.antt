@@ -8,7 +8,7 @@ use lib.Ieee.{binary64}
 use Rattle.sheet_encoding.specs.Bytes.{wordAt, numberAt, numbersAt}
 use Rattle.sheet_encoding.specs.Text.{hexDigits, decimalIn, decimal, numberText, numbersText, detailsText, refusedLine, doneHead, doneLine, resultLine, carrying}
 use Rattle.sheet_encoding.specs.Parse.{byteIn, section, order, task, tasks, parseEnd, parseEach, parseTasks, parseExponents, parseDirections, parseSheet}
-use Rattle.sheet.specs.Tasks.{valueFor, derivativeFor, both, ratio, taskResult, taskLines, linesOf, sheetLines}
+use Rattle.sheet.specs.Tasks.{valueFor, valueReport, derivativeFor, derivativeReport, both, ratio, taskResult, taskReport, ending, taskLines, linesOf, sheetLines}
 use Rattle.samples.specs.Shown.{Line, hold}
 use Rattle.samples.specs.Opened.{all}
 
@@ -27,7 +27,7 @@ abbrev pub bytes : List ℕ
 bytes = (2 ∷ []) ++ one ++ one ++ zero ++ one ++ (0 ∷ 1 ∷ []) ++ three ++ (1 ∷ 3 ∷ 0 ∷ [])
 
 -- What is written for a sheet, in this order:
---     1 ok 0 3ff0000000000000 4008000000000000 0000000000000000 3ff0000000000000
+--     1 ok 0 3ff0000000000000 4008000000000000 0000000000000000 3ff0000000000000 7ff0000000000000
 --     0 no 15 0 0      of no byte
 --     0 no 15 40 0     of 40 bytes
 --     0 no 15 45 0     of 45 bytes
@@ -41,7 +41,7 @@ bytes = (2 ∷ []) ++ one ++ one ++ zero ++ one ++ (0 ∷ 1 ∷ []) ++ three ++ 
 --     1 no 17 80 0     with 2^80 in the first entry and the task expm
 unfoldable pub sheet-table : List Line
 sheet-table =
-    (49 ∷ 32 ∷ 111 ∷ 107 ∷ 32 ∷ 48 ∷ 32 ∷ 51 ∷ 102 ∷ 102 ∷ 48 ∷ 48 ∷ 48 ∷ 48 ∷ 48 ∷ 48 ∷ 48 ∷ 48 ∷ 48 ∷ 48 ∷ 48 ∷ 48 ∷ 48 ∷ 32 ∷ 52 ∷ 48 ∷ 48 ∷ 56 ∷ 48 ∷ 48 ∷ 48 ∷ 48 ∷ 48 ∷ 48 ∷ 48 ∷ 48 ∷ 48 ∷ 48 ∷ 48 ∷ 48 ∷ 32 ∷ 48 ∷ 48 ∷ 48 ∷ 48 ∷ 48 ∷ 48 ∷ 48 ∷ 48 ∷ 48 ∷ 48 ∷ 48 ∷ 48 ∷ 48 ∷ 48 ∷ 48 ∷ 48 ∷ 32 ∷ 51 ∷ 102 ∷ 102 ∷ 48 ∷ 48 ∷ 48 ∷ 48 ∷ 48 ∷ 48 ∷ 48 ∷ 48 ∷ 48 ∷ 48 ∷ 48 ∷ 48 ∷ 48 ∷ 10 ∷ [], sheetLines binary64 bytes)
+    (49 ∷ 32 ∷ 111 ∷ 107 ∷ 32 ∷ 48 ∷ 32 ∷ 51 ∷ 102 ∷ 102 ∷ 48 ∷ 48 ∷ 48 ∷ 48 ∷ 48 ∷ 48 ∷ 48 ∷ 48 ∷ 48 ∷ 48 ∷ 48 ∷ 48 ∷ 48 ∷ 32 ∷ 52 ∷ 48 ∷ 48 ∷ 56 ∷ 48 ∷ 48 ∷ 48 ∷ 48 ∷ 48 ∷ 48 ∷ 48 ∷ 48 ∷ 48 ∷ 48 ∷ 48 ∷ 48 ∷ 32 ∷ 48 ∷ 48 ∷ 48 ∷ 48 ∷ 48 ∷ 48 ∷ 48 ∷ 48 ∷ 48 ∷ 48 ∷ 48 ∷ 48 ∷ 48 ∷ 48 ∷ 48 ∷ 48 ∷ 32 ∷ 51 ∷ 102 ∷ 102 ∷ 48 ∷ 48 ∷ 48 ∷ 48 ∷ 48 ∷ 48 ∷ 48 ∷ 48 ∷ 48 ∷ 48 ∷ 48 ∷ 48 ∷ 48 ∷ 32 ∷ 55 ∷ 102 ∷ 102 ∷ 48 ∷ 48 ∷ 48 ∷ 48 ∷ 48 ∷ 48 ∷ 48 ∷ 48 ∷ 48 ∷ 48 ∷ 48 ∷ 48 ∷ 48 ∷ 10 ∷ [], sheetLines binary64 bytes)
     ∷ (48 ∷ 32 ∷ 110 ∷ 111 ∷ 32 ∷ 49 ∷ 53 ∷ 32 ∷ 48 ∷ 32 ∷ 48 ∷ 10 ∷ [], sheetLines binary64 [])
     ∷ (48 ∷ 32 ∷ 110 ∷ 111 ∷ 32 ∷ 49 ∷ 53 ∷ 32 ∷ 52 ∷ 48 ∷ 32 ∷ 48 ∷ 10 ∷ [], sheetLines binary64 (take 40 bytes))
     ∷ (48 ∷ 32 ∷ 110 ∷ 111 ∷ 32 ∷ 49 ∷ 53 ∷ 32 ∷ 52 ∷ 53 ∷ 32 ∷ 48 ∷ 10 ∷ [], sheetLines binary64 (take 45 bytes))
@@ -56,5 +56,5 @@ sheet-table =
     ∷ []
 
 pub sheets-hold : hold sheet-table ≡ true
-unfolding sheet-table all wordAt numberAt numbersAt hexDigits decimalIn decimal numberText numbersText detailsText refusedLine doneHead doneLine resultLine carrying byteIn section order task tasks parseEnd parseEach parseTasks parseExponents parseDirections parseSheet valueFor derivativeFor both ratio taskResult taskLines linesOf sheetLines
+unfolding sheet-table all wordAt numberAt numbersAt hexDigits decimalIn decimal numberText numbersText detailsText refusedLine doneHead doneLine resultLine carrying byteIn section order task tasks parseEnd parseEach parseTasks parseExponents parseDirections parseSheet valueFor valueReport derivativeFor derivativeReport both ratio taskResult taskReport ending taskLines linesOf sheetLines
 sheets-hold = refl

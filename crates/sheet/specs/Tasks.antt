@@ -9,8 +9,11 @@ use lib.Ieee.{Float, Format}
 use Rattle.arithmetic_floats.specs.Float.{+zero}
 use Rattle.arithmetic_questions.specs.Result.{Result, refused, done}
 use Rattle.arithmetic_questions.specs.Outputs.{Both}
+use Rattle.arithmetic_questions.specs.Reports.{nothing}
+use Rattle.arithmetic_questions.specs.declared.answer.Report.{Report}
 use Rattle.functions_definitions.specs.Derivatives.{Condition}
 use Rattle.functions_definitions.specs.Calls.{expm, logm, sqrtm, powm, cosm, sinm, frechetExpm, frechetLogm, frechetSqrtm, condExpm}
+use Rattle.functions_definitions.specs.Reports.{expReport, logReport, rootReport, powerReport, frechetExpReport, frechetLogReport, frechetSqrtReport, condExpReport}
 use Rattle.sheet_encoding.specs.declared.parse.Parse.{Parse}
 use Rattle.sheet_encoding.specs.declared.parse.Parse.the-variants.{Sheet, Refused}
 use Rattle.sheet_encoding.specs.Bytes.{byteAt, numberAt, numbersAt}
@@ -41,6 +44,21 @@ derivativeFor f n a e code =
     (cond (eqb code 7) (frechetLogm f n n a n n e (n * n) (n * n) workspaceLength)
     (frechetSqrtm f n n a n n e (n * n) (n * n) workspaceLength))
 
+-- what codes 0 to 5 report; cosm and sinm (4, 5) factor nothing
+unfoldable pub valueReport : Format → ℕ → List Float → Float → ℕ → Report
+valueReport f n a p code =
+    cond (eqb code 0) (expReport f n a)
+    (cond (eqb code 1) (logReport f n a)
+    (cond (eqb code 2) (rootReport f n a)
+    (cond (eqb code 3) (powerReport f n a p) nothing)))
+
+-- what codes 6 to 8 report
+unfoldable pub derivativeReport : Format → ℕ → List Float → List Float → ℕ → Report
+derivativeReport f n a e code =
+    cond (eqb code 6) (frechetExpReport f n a e)
+    (cond (eqb code 7) (frechetLogReport f n a e)
+    (frechetSqrtReport f n a))
+
 -- a result with its outputs as one list: the first before the second, and of a condition the ratio only
 unfoldable pub both : Result Both → Result (List Float)
 both (refused k x y) = refused k x y
@@ -62,11 +80,28 @@ taskResult f s n d code i =
     (cond (ltb code 9) (both (derivativeFor f n a (numbersAt f s (directionAt n i) (n * n)) code))
     (ratio (condExpm f n n a workspaceLength)))
 
+-- what the task reports, where it is done
+unfoldable pub taskReport : Format → List ℕ → ℕ → ℕ → ℕ → ℕ → Report
+taskReport f s n d code i =
+    let a = numbersAt f s 1 (n * n) in
+    cond (ltb code 6) (valueReport f n a (exponentFor f s code (exponentAt n d i)) code)
+    (cond (ltb code 9) (derivativeReport f n a (numbersAt f s (directionAt n i) (n * n)) code)
+    (condExpReport f n a))
+
+-- a result with the smallest pivot of its report after its numbers
+unfoldable pub ending : Report → Result (List Float) → Result (List Float)
+ending r (refused k x y) = refused k x y
+ending r (done s m) = done s (m ++ (r .smallest ∷ []))
+
+-- the numbers of a task's line
+abbrev pub taskNumbers : Format → List ℕ → ℕ → ℕ → ℕ → ℕ → Result (List Float)
+taskNumbers f s n d code i = ending (taskReport f s n d code i) (taskResult f s n d code i)
+
 -- ---- the lines
 
 -- task k, from 0, of those from q on; its number is from 1
 abbrev pub taskLine : Format → List ℕ → ℕ → ℕ → ℕ → ℕ → List ℕ
-taskLine f s n d q k = resultLine f (k + 1) (taskResult f s n d (byteAt s (q + 2 * k)) (byteAt s (q + 2 * k + 1)))
+taskLine f s n d q k = resultLine f (k + 1) (taskNumbers f s n d (byteAt s (q + 2 * k)) (byteAt s (q + 2 * k + 1)))
 
 -- the first k tasks of those from q on
 unfoldable pub taskLines : Format → List ℕ → ℕ → ℕ → ℕ → ℕ → List ℕ

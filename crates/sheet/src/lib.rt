@@ -6,13 +6,13 @@ mod position;
 mod run;
 mod task;
 
-// The lines of the sheet's tasks are written to out, and the number of bytes written is reported. An out of fewer than 35,000 bytes is refused
+// The lines of the sheet's tasks are written to out, and the number of bytes written is reported. An out of fewer than 35,500 bytes is refused
 // before the sheet is read: 0 is reported, and no byte written.
 #[no_mangle]
 pub extern "C" fn axis_sheet(sheet: &[u8], out: &mut [u8]) -> usize
     ensures { λ r. ⌜ Entered binary64 (now (sheet .entry)) (now (out .entry)) (now (out .exit)) r ⌝ }
 {
-    if out.len() < 35000 {
+    if out.len() < 35500 {
         return 0;
     }
     run::run(sheet, out)

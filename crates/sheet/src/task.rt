@@ -6,11 +6,13 @@ ghost use Prim.Native.Nat.{_+_, _*_, _≤_, _<_};
 ghost use lib.ListN.{length};
 ghost use lib.Ieee.{binary64};
 ghost use Rattle.arithmetic_questions.specs.Outputs.{OneOutputWith, TwoOutputsWith};
+ghost use Rattle.arithmetic_questions.specs.Reports.{reportAt};
 ghost use Rattle.functions_definitions.specs.Calls.{condExpm};
+ghost use Rattle.functions_definitions.specs.Reports.{condExpReport};
 ghost use Rattle.sheet_encoding.specs.Bytes.{byteAt, numbersAt};
 ghost use Rattle.sheet_encoding.specs.Text.{resultLine};
 ghost use Rattle.sheet_encoding.specs.Parse.{matrixSize, directionAt, exponentAt};
-ghost use Rattle.sheet.specs.Tasks.{workspaceLength, valueFor, derivativeFor, both, ratio, exponentFor, taskResult};
+ghost use Rattle.sheet.specs.Tasks.{workspaceLength, valueFor, valueReport, derivativeFor, derivativeReport, both, ratio, exponentFor, ending, taskNumbers};
 ghost use Rattle.sheet.specs.Kernels.{TaskRoom, TaskReady};
 ghost use Rattle.sheet_encoding.specs.Kernels.{Lined};
 use crate::position::direction_at;
@@ -34,6 +36,7 @@ use sheet_encoding::reading::read_numbers;
 fn value(code: usize, n: usize, a: &[f64], p: f64, x: &mut [f64], w: &mut [f64]) -> Answer
     requires { ⌜ (length (now x) ≡ n * n) × (length (now w) ≡ workspaceLength) ⌝ }
     ensures { λ r. ⌜ OneOutputWith false (valueFor binary64 n (now (a .entry)) p code) (r .outcome) (now (x .entry)) (now (x .exit)) (now (w .entry)) (now (w .exit)) ⌝ }
+    ensures { λ r. ⌜ r .report ≡ reportAt (valueFor binary64 n (now (a .entry)) p code) (valueReport binary64 n (now (a .entry)) p code) ⌝ }
 {
     if code == 0 {
         return expm_with(n, n, a, x, w, false);
@@ -65,6 +68,7 @@ fn derivative(
 ) -> Answer
     requires { ⌜ (length (now x) ≡ n * n) × (length (now y) ≡ n * n) × (length (now w) ≡ workspaceLength) ⌝ }
     ensures { λ r. ⌜ TwoOutputsWith false (derivativeFor binary64 n (now (a .entry)) (now (e .entry)) code) (r .outcome) (now (x .entry)) (now (x .exit)) (now (y .entry)) (now (y .exit)) (now (w .entry)) (now (w .exit)) ⌝ }
+    ensures { λ r. ⌜ r .report ≡ reportAt (derivativeFor binary64 n (now (a .entry)) (now (e .entry)) code) (derivativeReport binary64 n (now (a .entry)) (now (e .entry)) code) ⌝ }
 {
     if code == 6 {
         return frechet_expm_with(n, n, a, n, n, e, x, y, w, false);
@@ -99,12 +103,13 @@ fn value_line(
 ) -> usize
     requires { ⌜ TaskRoom (now out) at task n (now a) (now w) ⌝ }
     requires { ⌜ (length (now x) ≡ n * n) × (d ≤ 8) × (index < 256) × (code ≡ 3 → exponentAt n d index + 8 ≤ length (now s)) ⌝ }
-    ensures { λ r. ⌜ Lined (now (out .entry)) at (resultLine binary64 task (valueFor binary64 n (now (a .entry)) (exponentFor binary64 (now (s .entry)) code (exponentAt n d index)) code)) (now (out .exit)) r ⌝ }
+    ensures { λ r. ⌜ Lined (now (out .entry)) at (resultLine binary64 task (ending (valueReport binary64 n (now (a .entry)) (exponentFor binary64 (now (s .entry)) code (exponentAt n d index)) code) (valueFor binary64 n (now (a .entry)) (exponentFor binary64 (now (s .entry)) code (exponentAt n d index)) code))) (now (out .exit)) r ⌝ }
 {
     let p = exponent_for(s, code, exponent_at(n, d, index));
     let answer = value(code, n, a, p, x, w);
     let outcome = answer.outcome;
-    put_answer(out, at, task, outcome, x, &[])
+    let report = answer.report;
+    put_answer(out, at, task, outcome, x, &[], report.smallest)
 }
 
 // The line of a code from 6 to 8 with its index. The direction is read to e.
@@ -125,12 +130,13 @@ fn derivative_line(
     requires { ⌜ TaskRoom (now out) at task n (now a) (now w) ⌝ }
     requires { ⌜ (length (now e) ≡ n * n) × (length (now x) ≡ n * n) × (length (now y) ≡ n * n) ⌝ }
     requires { ⌜ (index ≤ 8) × (directionAt n index + matrixSize n ≤ length (now s)) ⌝ }
-    ensures { λ r. ⌜ Lined (now (out .entry)) at (resultLine binary64 task (both (derivativeFor binary64 n (now (a .entry)) (numbersAt binary64 (now (s .entry)) (directionAt n index) (n * n)) code))) (now (out .exit)) r ⌝ }
+    ensures { λ r. ⌜ Lined (now (out .entry)) at (resultLine binary64 task (ending (derivativeReport binary64 n (now (a .entry)) (numbersAt binary64 (now (s .entry)) (directionAt n index) (n * n)) code) (both (derivativeFor binary64 n (now (a .entry)) (numbersAt binary64 (now (s .entry)) (directionAt n index) (n * n)) code)))) (now (out .exit)) r ⌝ }
 {
     read_numbers(s, direction_at(n, index), e);
     let answer = derivative(code, n, a, e, x, y, w);
     let outcome = answer.outcome;
-    put_answer(out, at, task, outcome, x, y)
+    let report = answer.report;
+    put_answer(out, at, task, outcome, x, y, report.smallest)
 }
 
 // The line of code 9.
@@ -143,13 +149,14 @@ fn condition_line(
     w: &mut [f64],
 ) -> usize
     requires { ⌜ TaskRoom (now out) at task n (now a) (now w) ⌝ }
-    ensures { λ r. ⌜ Lined (now (out .entry)) at (resultLine binary64 task (ratio (condExpm binary64 n n (now (a .entry)) workspaceLength))) (now (out .exit)) r ⌝ }
+    ensures { λ r. ⌜ Lined (now (out .entry)) at (resultLine binary64 task (ending (condExpReport binary64 n (now (a .entry))) (ratio (condExpm binary64 n n (now (a .entry)) workspaceLength)))) (now (out .exit)) r ⌝ }
 {
     let answer = cond_expm_with(n, n, a, w, false);
     let outcome = answer.outcome;
     let condition = answer.condition;
     let ratio = [condition.ratio; 1];
-    put_answer(out, at, task, outcome, &ratio, &[])
+    let report = answer.report;
+    put_answer(out, at, task, outcome, &ratio, &[], report.smallest)
 }
 
 // The line of the task at q. e, x and y are room for a direction and two outputs.
@@ -170,7 +177,7 @@ pub fn run_task(
     requires { ⌜ TaskRoom (now out) at task n (now a) (now w) ⌝ }
     requires { ⌜ TaskReady (now s) q n d ⌝ }
     requires { ⌜ (now a ≡ numbersAt binary64 (now s) 1 (n * n)) × (length (now e) ≡ n * n) × (length (now x) ≡ n * n) × (length (now y) ≡ n * n) ⌝ }
-    ensures { λ r. ⌜ Lined (now (out .entry)) at (resultLine binary64 task (taskResult binary64 (now (s .entry)) n d (byteAt (now (s .entry)) q) (byteAt (now (s .entry)) (q + 1)))) (now (out .exit)) r ⌝ }
+    ensures { λ r. ⌜ Lined (now (out .entry)) at (resultLine binary64 task (taskNumbers binary64 (now (s .entry)) n d (byteAt (now (s .entry)) q) (byteAt (now (s .entry)) (q + 1)))) (now (out .exit)) r ⌝ }
 {
     let code = s[q] as usize;
     let index = s[q + 1] as usize;

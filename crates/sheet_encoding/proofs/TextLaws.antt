@@ -117,7 +117,7 @@ unfolding numbersText
 numbersText-append f [] m = refl
 numbersText-append f (y ∷ ys) m = rw (numbersText-append f ys m) (sym (append-assoc (field (numberText f y)) (numbersText f ys) (numbersText f m)))
 
-numbersText-one : (f : Format) (x : Float) → numbersText f (x ∷ []) ≡ field (numberText f x)
+pub numbersText-one : (f : Format) (x : Float) → numbersText f (x ∷ []) ≡ field (numberText f x)
 unfolding numbersText
 numbersText-one f x = append-nil (field (numberText f x))
 

@@ -9,11 +9,11 @@ taskLimit = 16
 abbrev pub codeLimit : ℕ
 codeLimit = 10
 
--- The most bytes of a line: 2 digits of a task's number, 3 bytes for ` ok`, a space and 2 digits of halvings, 128 numbers of 17 bytes with their spaces, and
--- the newline.
+-- The most bytes of a line: 2 digits of a task's number, 3 bytes for ` ok`, a space and 2 digits of halvings, 128 numbers of the outputs and the one of the
+-- report, each of 17 bytes with its space, and the newline.
 abbrev pub lineLimit : ℕ
-lineLimit = 2185
+lineLimit = 2202
 
 -- the bytes of output that the entry asks for: there is room for the most lines of the most bytes
 abbrev pub outputLimit : ℕ
-outputLimit = 35000
+outputLimit = 35500

@@ -1,7 +1,7 @@
 // The line of a task.
 ghost use mathlib.Core.Path.{_≡_};
 ghost use Prim.Native.Nat.{_+_, _≤_, _<_};
-ghost use mathlib.Core.List.{[], _++_};
+ghost use mathlib.Core.List.{[], _∷_, _++_};
 ghost use lib.ListN.{length};
 ghost use lib.Ieee.{binary64};
 ghost use Rattle.arithmetic_questions.specs.Answers.{numbered, reported};
@@ -15,6 +15,7 @@ use crate::writing::put_byte;
 use crate::writing::put_decimal;
 use crate::writing::put_detail;
 use crate::writing::put_details;
+use crate::writing::put_entry;
 use crate::writing::put_numbers;
 use crate::writing::put_word;
 use arithmetic_questions::answer::Outcome;
@@ -50,7 +51,7 @@ fn put_head(out: &mut [u8], at: usize, task: usize, halvings: usize) -> usize
     put_detail(out, f, halvings)
 }
 
-// The line of a task that is done, with the numbers of its outputs.
+// The line of a task that is done, with the numbers of its outputs and then its smallest pivot.
 fn put_done(
     out: &mut [u8],
     at: usize,
@@ -58,14 +59,16 @@ fn put_done(
     halvings: usize,
     first: &[f64],
     second: &[f64],
+    smallest: f64,
 ) -> usize
     requires { ⌜ (at + lineLimit ≤ length (now out)) × (task < 100) × (halvings < 100) × (length (now first) + length (now second) ≤ 128) ⌝ }
-    ensures { λ r. ⌜ Lined (now (out .entry)) at (doneLine binary64 task halvings (now (first .entry) ++ now (second .entry))) (now (out .exit)) r ⌝ }
+    ensures { λ r. ⌜ Lined (now (out .entry)) at (doneLine binary64 task halvings (now (first .entry) ++ now (second .entry) ++ (smallest ∷ []))) (now (out .exit)) r ⌝ }
 {
     let e = put_head(out, at, task, halvings);
     let f = put_numbers(out, e, first);
     let g = put_numbers(out, f, second);
-    put_byte(out, g, b'\n')
+    let z = put_entry(out, g, smallest);
+    put_byte(out, z, b'\n')
 }
 
 // A refusal with this number and these details.
@@ -121,7 +124,7 @@ pub fn put_sheet_refused(out: &mut [u8], why: SheetRefusal) -> usize
     put_refused(out, 0, 0, sheet_code_of(why))
 }
 
-// The line of a task with this outcome; its outputs are written where it is done.
+// The line of a task with this outcome; where it is done, its outputs are written and then its smallest pivot.
 pub fn put_answer(
     out: &mut [u8],
     at: usize,
@@ -129,12 +132,15 @@ pub fn put_answer(
     outcome: Outcome,
     first: &[f64],
     second: &[f64],
+    smallest: f64,
 ) -> usize
     requires { ⌜ LineRoom (now out) at task outcome (now first) (now second) ⌝ }
-    ensures { λ r. ⌜ Lined (now (out .entry)) at (resultLine binary64 task (carrying (now (first .entry) ++ now (second .entry)) (reported outcome))) (now (out .exit)) r ⌝ }
+    ensures { λ r. ⌜ Lined (now (out .entry)) at (resultLine binary64 task (carrying (now (first .entry) ++ now (second .entry) ++ (smallest ∷ [])) (reported outcome))) (now (out .exit)) r ⌝ }
 {
     match outcome {
-        Outcome::Done { halvings } => { put_done(out, at, task, halvings as usize, first, second) }
+        Outcome::Done { halvings } => {
+            put_done(out, at, task, halvings as usize, first, second, smallest)
+        }
         Outcome::Refused(why) => put_refused(out, at, task, code_of(why)),
     }
 }

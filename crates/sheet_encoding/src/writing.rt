@@ -125,7 +125,7 @@ pub fn put_details(out: &mut [u8], at: usize, number: usize, first: usize, secon
 }
 
 // A space and a number.
-fn put_entry(out: &mut [u8], at: usize, x: f64) -> usize
+pub fn put_entry(out: &mut [u8], at: usize, x: f64) -> usize
     requires { ⌜ at + 17 ≤ length (now out) ⌝ }
     ensures { λ r. ⌜ Wrote (now (out .entry)) at (field (numberText binary64 x)) (now (out .exit)) r ⌝ }
     ensures { λ r. ⌜ r ≡ at + 17 ⌝ }

@@ -51,37 +51,43 @@ fn workspace_room() -> [f32; 8320]
 fn expm_agrees(shape: Shape, a: &[f32], out: &mut [f32], w: &mut [f32], want: &[u8]) -> bool {
     let answer = expm(shape.rows, shape.columns, a, out, w);
     let outcome = answer.outcome;
-    same_call(want, outcome, out, &[], &[], w)
+    let report = answer.report;
+    same_call(want, outcome, report, out, &[], &[], w)
 }
 
 fn logm_agrees(shape: Shape, a: &[f32], out: &mut [f32], w: &mut [f32], want: &[u8]) -> bool {
     let answer = logm(shape.rows, shape.columns, a, out, w);
     let outcome = answer.outcome;
-    same_call(want, outcome, out, &[], &[], w)
+    let report = answer.report;
+    same_call(want, outcome, report, out, &[], &[], w)
 }
 
 fn sqrtm_agrees(shape: Shape, a: &[f32], out: &mut [f32], w: &mut [f32], want: &[u8]) -> bool {
     let answer = sqrtm(shape.rows, shape.columns, a, out, w);
     let outcome = answer.outcome;
-    same_call(want, outcome, out, &[], &[], w)
+    let report = answer.report;
+    same_call(want, outcome, report, out, &[], &[], w)
 }
 
 fn powm_agrees(shape: Shape, a: &[f32], out: &mut [f32], w: &mut [f32], want: &[u8]) -> bool {
     let answer = powm(shape.rows, shape.columns, a, shape.exponent, out, w);
     let outcome = answer.outcome;
-    same_call(want, outcome, out, &[], &[], w)
+    let report = answer.report;
+    same_call(want, outcome, report, out, &[], &[], w)
 }
 
 fn cosm_agrees(shape: Shape, a: &[f32], out: &mut [f32], w: &mut [f32], want: &[u8]) -> bool {
     let answer = cosm(shape.rows, shape.columns, a, out, w);
     let outcome = answer.outcome;
-    same_call(want, outcome, out, &[], &[], w)
+    let report = answer.report;
+    same_call(want, outcome, report, out, &[], &[], w)
 }
 
 fn sinm_agrees(shape: Shape, a: &[f32], out: &mut [f32], w: &mut [f32], want: &[u8]) -> bool {
     let answer = sinm(shape.rows, shape.columns, a, out, w);
     let outcome = answer.outcome;
-    same_call(want, outcome, out, &[], &[], w)
+    let report = answer.report;
+    same_call(want, outcome, report, out, &[], &[], w)
 }
 
 fn frechet_expm_agrees(
@@ -105,7 +111,8 @@ fn frechet_expm_agrees(
         w,
     );
     let outcome = answer.outcome;
-    same_call(want, outcome, first, second, &[], w)
+    let report = answer.report;
+    same_call(want, outcome, report, first, second, &[], w)
 }
 
 fn frechet_logm_agrees(
@@ -129,7 +136,8 @@ fn frechet_logm_agrees(
         w,
     );
     let outcome = answer.outcome;
-    same_call(want, outcome, first, second, &[], w)
+    let report = answer.report;
+    same_call(want, outcome, report, first, second, &[], w)
 }
 
 fn frechet_sqrtm_agrees(
@@ -153,20 +161,22 @@ fn frechet_sqrtm_agrees(
         w,
     );
     let outcome = answer.outcome;
-    same_call(want, outcome, first, second, &[], w)
+    let report = answer.report;
+    same_call(want, outcome, report, first, second, &[], w)
 }
 
 // The recorded outputs are the ratio, the derivative's norm and the exponential's.
 fn cond_expm_agrees(shape: Shape, a: &[f32], w: &mut [f32], want: &[u8]) -> bool {
     let answer = cond_expm(shape.rows, shape.columns, a, w);
     let outcome = answer.outcome;
+    let report = answer.report;
     let condition = answer.condition;
     let values = [
         condition.ratio,
         condition.derivative_norm,
         condition.exponential_norm,
     ];
-    same_values(want, outcome, &values, w)
+    same_values(want, outcome, report, &values, w)
 }
 
 // Makes the call with what is lent; `want` is its outcome.

@@ -54,7 +54,8 @@ fn compute_agrees(
 ) -> bool {
     let answer = lu::compute(shape.rows, shape.columns, a, factors, pivots, w);
     let outcome = answer.outcome;
-    same_call(want, outcome, factors, &[], pivots, w)
+    let report = answer.report;
+    same_call(want, outcome, report, factors, &[], pivots, w)
 }
 
 fn run_compute(shape: Shape, a: &[f64], count: usize, want: &[u8]) -> Verdict {
@@ -101,7 +102,8 @@ fn solve_agrees(
         out,
     );
     let outcome = answer.outcome;
-    same_call(want, outcome, out, &[], &[], &[])
+    let report = answer.report;
+    same_call(want, outcome, report, out, &[], &[], &[])
 }
 
 fn kron_agrees(shape: Shape, a: &[f64], b: &[f64], out: &mut [f64], want: &[u8]) -> bool {
@@ -115,7 +117,8 @@ fn kron_agrees(shape: Shape, a: &[f64], b: &[f64], out: &mut [f64], want: &[u8])
         out,
     );
     let outcome = answer.outcome;
-    same_call(want, outcome, out, &[], &[], &[])
+    let report = answer.report;
+    same_call(want, outcome, report, out, &[], &[], &[])
 }
 
 fn kron_sum_agrees(shape: Shape, a: &[f64], b: &[f64], out: &mut [f64], want: &[u8]) -> bool {
@@ -129,7 +132,8 @@ fn kron_sum_agrees(shape: Shape, a: &[f64], b: &[f64], out: &mut [f64], want: &[
         out,
     );
     let outcome = answer.outcome;
-    same_call(want, outcome, out, &[], &[], &[])
+    let report = answer.report;
+    same_call(want, outcome, report, out, &[], &[], &[])
 }
 
 fn run_solve(shape: Shape, f: &[f64], b: &[f64], pivots: &[usize], want: &[u8]) -> Verdict {
@@ -162,8 +166,9 @@ fn run_kron_sum(shape: Shape, a: &[f64], b: &[f64], want: &[u8]) -> Verdict {
 fn run_determinant(shape: Shape, f: &[f64], pivots: &[usize], want: &[u8]) -> Verdict {
     let answer = lu::determinant(shape.rows, shape.columns, f, pivots);
     let outcome = answer.outcome;
+    let report = answer.report;
     let value = [answer.value; 1];
-    judged(same_values(want, outcome, &value, &[]))
+    judged(same_values(want, outcome, report, &value, &[]))
 }
 
 // Runs a vector whose lists have been read; `want` is its outcome.

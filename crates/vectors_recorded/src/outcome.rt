@@ -1,4 +1,4 @@
-// Outcomes as numbers, and the comparison of a call's outcome and outputs with what was recorded.
+// Answers as numbers, and the comparison of a call's answer and outputs with what was recorded.
 ghost use Prim.Native.Nat.{_≤_};
 ghost use lib.ListN.{length};
 use crate::after;
@@ -8,18 +8,21 @@ use crate::same_numbers;
 use crate::word;
 use arithmetic::Outcome;
 use arithmetic::Refusal;
+use arithmetic::Report;
 use arithmetic::bits_of;
+use arithmetic::smallest_bits;
 
 // An outcome: number 0 and the halvings, or the refusal's number and its two details.
-struct Report {
+struct Ending {
     number: u64,
     first: u64,
     second: u64,
 }
 
-// The recorded outcome, and where the recorded outputs start.
+// The recorded outcome, the bits of the smallest pivot, and where the recorded outputs start.
 struct Recorded {
-    report: Report,
+    ending: Ending,
+    smallest: u64,
     next: usize,
 }
 
@@ -29,8 +32,11 @@ pub const LENT: f64 = -77.25;
 // What every lent pivot holds before a call.
 pub const LENT_PIVOT: usize = 7_777;
 
-fn numbered(number: u64, first: usize, second: usize) -> Report {
-    Report {
+// The bits of plus infinity, which a refused call reports.
+const INFINITY: u64 = 0x7ff0_0000_0000_0000;
+
+fn numbered(number: u64, first: usize, second: usize) -> Ending {
+    Ending {
         number,
         first: first as u64,
         second: second as u64,
@@ -38,7 +44,7 @@ fn numbered(number: u64, first: usize, second: usize) -> Report {
 }
 
 // A refusal by its number in documents 01 and 02.
-fn refusal_report(why: Refusal) -> Report {
+fn refusal_ending(why: Refusal) -> Ending {
     match why {
         Refusal::EmptyMatrix => numbered(1, 0, 0),
         Refusal::NotSquare(rows, columns) => numbered(2, rows, columns),
@@ -58,46 +64,48 @@ fn refusal_report(why: Refusal) -> Report {
     }
 }
 
-fn report_of(outcome: Outcome) -> Report {
+fn ending_of(outcome: Outcome) -> Ending {
     match outcome {
-        Outcome::Done { halvings } => Report {
+        Outcome::Done { halvings } => Ending {
             number: 0,
             first: halvings,
             second: 0,
         },
-        Outcome::Refused(why) => refusal_report(why),
+        Outcome::Refused(why) => refusal_ending(why),
     }
 }
 
-// The recorded outcome with which s starts: `ok HALVINGS`, or `no NUMBER DETAIL DETAIL`.
+// The recorded outcome with which s starts: `ok HALVINGS SMALLEST`, or `no NUMBER DETAIL DETAIL`.
 fn recorded_outcome(s: &[u8]) -> Recorded
     ensures { λ r. ⌜ r .next ≤ length (now (s .entry)) ⌝ }
 {
     let at = after(s, 0, b' ');
     let one = word(s, at);
+    let two = word(s, one.next);
     if begins(s, b"ok ") {
         return Recorded {
-            report: Report {
+            ending: Ending {
                 number: 0,
                 first: one.value,
                 second: 0,
             },
-            next: one.next,
+            smallest: two.value,
+            next: two.next,
         };
     }
-    let two = word(s, one.next);
     let three = word(s, two.next);
     Recorded {
-        report: Report {
+        ending: Ending {
             number: one.value,
             first: two.value,
             second: three.value,
         },
+        smallest: INFINITY,
         next: three.next,
     }
 }
 
-fn same_report(a: Report, b: Report) -> bool {
+fn same_ending(a: Ending, b: Ending) -> bool {
     a.number == b.number && a.first == b.first && a.second == b.second
 }
 
@@ -155,39 +163,46 @@ fn cleared_after(number: u64) -> usize {
     if number == 0 || 12 <= number { 8192 } else { 0 }
 }
 
-// Whether the recorded outcome s is this one, the workspace w is left as it says, and x, y and the pivots are what was recorded or, after a
-// refusal, as they were lent. What a function does not have is empty.
+// Whether the recorded outcome s and its smallest pivot are these, the workspace w is left as the outcome says, and x, y and the pivots are what was
+// recorded or, after a refusal, as they were lent. What a function does not have is empty.
 pub fn same_call(
     s: &[u8],
     outcome: Outcome,
+    report: Report,
     x: &[f64],
     y: &[f64],
     pivots: &[usize],
     w: &[f64],
 ) -> bool {
-    let report = report_of(outcome);
+    let ending = ending_of(outcome);
     let recorded = recorded_outcome(s);
-    let wanted = recorded.report;
-    if !same_report(report, wanted) || !cleared_to(w, cleared_after(report.number)) {
+    let wanted = recorded.ending;
+    if !same_ending(ending, wanted) || smallest_bits(report) != recorded.smallest {
         return false;
     }
-    if report.number == 0 {
+    if !cleared_to(w, cleared_after(ending.number)) {
+        return false;
+    }
+    if ending.number == 0 {
         return same_outputs(s, recorded.next, x, y, pivots);
     }
     let lent = cleared_to(x, 0) && cleared_to(y, 0) && pivots_as_lent(pivots);
     lent && recorded.next == s.len()
 }
 
-// Whether the recorded outcome s is this one, the workspace w is left as it says, and the returned numbers x are what was recorded or, after a
-// refusal, +0.
-pub fn same_values(s: &[u8], outcome: Outcome, x: &[f64], w: &[f64]) -> bool {
-    let report = report_of(outcome);
+// Whether the recorded outcome s and its smallest pivot are these, the workspace w is left as the outcome says, and the returned numbers x are what was
+// recorded or, after a refusal, +0.
+pub fn same_values(s: &[u8], outcome: Outcome, report: Report, x: &[f64], w: &[f64]) -> bool {
+    let ending = ending_of(outcome);
     let recorded = recorded_outcome(s);
-    let wanted = recorded.report;
-    if !same_report(report, wanted) || !cleared_to(w, cleared_after(report.number)) {
+    let wanted = recorded.ending;
+    if !same_ending(ending, wanted) || smallest_bits(report) != recorded.smallest {
         return false;
     }
-    if report.number == 0 {
+    if !cleared_to(w, cleared_after(ending.number)) {
+        return false;
+    }
+    if ending.number == 0 {
         same_outputs(s, recorded.next, x, &[], &[])
     } else {
         cleared_to(x, x.len()) && recorded.next == s.len()

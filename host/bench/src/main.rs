@@ -24,7 +24,7 @@ struct Times {
 
 /// The output is lent once and not cleared between the runs.
 fn measure(entry: Entry, s: &Sheet, samples: usize, least: Duration) -> Times {
-    let bytes = s.bytes();
+    let (bytes, smallest) = (s.bytes(), source::smallest(s));
     let mut written = [vec![0; ROOM], vec![0; ROOM]];
     let [first, second] = &mut written;
     let [port, source, calls] = least_times(
@@ -35,7 +35,7 @@ fn measure(entry: Entry, s: &Sheet, samples: usize, least: Duration) -> Times {
                 black_box(entry(black_box(&bytes), first));
             },
             &mut || {
-                black_box(source::sheet(black_box(&bytes), second));
+                black_box(source::sheet(black_box(&bytes), black_box(&smallest), second));
             },
             &mut || source::calls(s),
         ],
@@ -85,6 +85,7 @@ fn main() {
 mod tests {
     use super::*;
     use compare::expected::{Line, expected};
+    use compare::sheet::read;
 
     /// The source's side does what the entry must do, on every sheet that is timed; and all of them are inside the compared domain.
     #[test]
@@ -92,16 +93,36 @@ mod tests {
         for s in TIMED.iter().flat_map(|timed| timed.sheets()).chain((2..=8).map(overhead)) {
             let bytes = s.bytes();
             let mut output = vec![0; ROOM];
-            let reported = source::sheet(&bytes, &mut output);
+            let reported = source::sheet(&bytes, &source::smallest(&s), &mut output);
             let text = String::from_utf8(output[..reported].to_vec()).unwrap();
             let lines: Vec<Line> = text.lines().map(|line| Line::Text(line.to_string())).collect();
             assert_eq!(lines, expected(&bytes, ROOM).lines());
         }
     }
 
+    /// The source's side in the entry's place; it finds the smallest pivots by itself.
+    fn source_alone(bytes: &[u8], output: &mut [u8]) -> usize {
+        source::sheet(bytes, &source::smallest(&read(bytes).expect("an accepted sheet")), output)
+    }
+
     /// The report, with the source in the entry's place.
     #[test]
     fn the_report_runs() {
-        report(&source::sheet, 1, Duration::ZERO);
+        report(&source_alone, 1, Duration::ZERO);
+    }
+
+    /// A sheet whose lines are not the source's ends the program, here without the smallest pivots.
+    #[test]
+    #[should_panic = "write other lines"]
+    fn a_sheet_that_differs_is_not_reported() {
+        let without = |bytes: &[u8], output: &mut [u8]| {
+            let mut whole = vec![0; ROOM];
+            let reported = source_alone(bytes, &mut whole);
+            let text = String::from_utf8(whole[..reported].to_vec()).unwrap();
+            let lines: String = text.lines().map(|line| line[..line.len() - 17].to_string() + "\n").collect();
+            output[..lines.len()].copy_from_slice(lines.as_bytes());
+            lines.len()
+        };
+        report(&without, 1, Duration::ZERO);
     }
 }

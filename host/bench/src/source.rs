@@ -1,7 +1,9 @@
-//! The source's side: its calls alone, and a whole sheet read, run by the source and written as the entry does.
+//! The source's side: its calls alone, and a whole sheet read, run by the source and written as the entry does. The source does not report the smallest
+//! pivot that ends a line: it is found beforehand, by other runs, and only written here.
 
 use compare::sheet::{Sheet, Task, read};
 use std::hint::black_box;
+use vectors::answer::answer;
 use vectors::call::{Function::*, word};
 use vectors::norms::{block, even_direction, halvings, one_norm};
 
@@ -70,14 +72,20 @@ impl Output<'_> {
     }
 }
 
-/// What the entry does, for a sheet whose tasks are all answered.
-pub fn sheet(bytes: &[u8], output: &mut [u8]) -> usize {
+/// The smallest pivot of each task.
+pub fn smallest(s: &Sheet) -> Vec<f64> {
+    let reported = |task: &Task| answer(&s.call(*task)).smallest();
+    s.tasks.iter().map(|task| reported(task).expect("the sheets that are timed are compared")).collect()
+}
+
+/// What the entry does, for a sheet whose tasks are all answered and have these smallest pivots.
+pub fn sheet(bytes: &[u8], smallest: &[f64], output: &mut [u8]) -> usize {
     let s = read(bytes).expect("the sheets that are timed are accepted");
     let mut out = Output { bytes: output, at: 0 };
     for (k, task) in s.tasks.iter().enumerate() {
         let numbers = outputs(&s, *task);
         out.put(format!("{} ok {}", k + 1, reported(&s, *task)).as_bytes());
-        numbers.iter().for_each(|x| out.put_number(*x));
+        numbers.iter().chain([&smallest[k]]).for_each(|x| out.put_number(*x));
         out.put(b"\n");
     }
     out.at

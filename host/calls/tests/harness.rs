@@ -5,8 +5,10 @@ use calls::entries::Told;
 use calls::lent::{Lent, Slice, returned};
 use calls::make::{Trial, trial};
 use calls::run::{judge, run};
+use oracle::Lu;
 use vectors::answer::answer;
-use vectors::call::{Call, Function, Function::*, Outcome, Refusal};
+use vectors::call::{Call, FUNCTIONS, Function, Function::*, Outcome, Refusal};
+use vectors::smallest::{factorings, smallest, smallest_pivot};
 use vectors::width::Width;
 
 /// Trials, with the outcome that each must have.
@@ -37,7 +39,7 @@ fn stand_in<T: Width>(outcome: &Outcome<T>, call: &Call<T>, lent: &mut Lent<T>) 
         }
         _ => put(&mut lent.numbers, &[T::zero(); 3]),
     }
-    Told { number, report }
+    Told { number, report, smallest: outcome.smallest().unwrap_or(f64::INFINITY).to_bits() }
 }
 
 impl<T: Width> Tries<T> {
@@ -51,6 +53,7 @@ impl<T: Width> Tries<T> {
     }
 
     /// The first call that is found of a stand-in that is changed after it did what it must, and what is said of it.
+    #[track_caller]
     fn found(&self, change: impl Fn(&Call<T>, &mut Lent<T>, &mut Told)) -> (&Call<T>, String) {
         let fault = |t: &Trial<T>, outcome: &Outcome<T>| {
             let entry = |call: &Call<T>, lent: &mut Lent<T>| {
@@ -65,6 +68,7 @@ impl<T: Width> Tries<T> {
     }
 
     /// The function of the first call that is found.
+    #[track_caller]
     fn function(&self, change: impl Fn(&Call<T>, &mut Lent<T>, &mut Told)) -> Function {
         self.found(change).0.function
     }
@@ -136,6 +140,114 @@ fn wrong_reports<T: Width>(tries: &Tries<T>) {
             }
         });
         assert!(number > 11 || fault.contains(&format!("wanted Told {{ number: {number},")), "{fault}");
+    }
+}
+
+/// A smallest pivot that is wrong in the last bit, of each function, and one that is not plus infinity after a refusal.
+fn wrong_smallest<T: Width>(tries: &Tries<T>) {
+    for (wrong, _) in FUNCTIONS {
+        let change = |call: &Call<T>, _: &mut Lent<T>, told: &mut Told| {
+            if call.function == wrong && told.number == 0 {
+                told.smallest ^= 1
+            }
+        };
+        assert_eq!(tries.function(change), wrong);
+    }
+    let others = [0.0, 1.0, f64::MAX, f64::NAN, f64::NEG_INFINITY].map(f64::to_bits);
+    for number in REFUSALS {
+        for smallest in others {
+            let (_, fault) = tries.found(|_, _, told| {
+                if told.number == number {
+                    told.smallest = smallest
+                }
+            });
+            assert!(fault.contains(&format!("number: {number},")), "{fault}");
+        }
+    }
+    // What was factored before the refusal, in a square root's first pass or in a logarithm.
+    for wrong in [Sqrtm, Logm, FrechetLogm, Powm] {
+        let change = |call: &Call<T>, _: &mut Lent<T>, told: &mut Told| {
+            if call.function == wrong && told.number == 13 {
+                told.smallest = smallest(&factorings(call, None)).to_bits()
+            }
+        };
+        assert_eq!(tries.function(change), wrong);
+    }
+}
+
+/// The smallest pivot of a call's matrix.
+fn alone<T: Width>(call: &Call<T>) -> Vec<T> {
+    let factors = Lu::compute(call.rows, call.rows, &call.matrix).map(|lu| lu.factors());
+    factors.map_or(Vec::new(), |factors| vec![smallest_pivot(call.rows, &factors)])
+}
+
+/// Reports of lu_compute: without one column's pivot, without magnitudes, with a NaN that wins, and the largest. After a NaN all pivots are
+/// NaNs, so that a search that ends there gives the same.
+fn wrong_pivots<T: Width>(tries: &Tries<T>) {
+    let found = |chosen: &dyn Fn(&[T]) -> T| {
+        let change = |call: &Call<T>, lent: &mut Lent<T>, told: &mut Told| {
+            if call.function == LuCompute && told.number == 0 && call.rows > 0 {
+                let factors = lent.outputs[0].lent();
+                let pivots: Vec<T> = (0..call.rows).map(|k| T::of_bits(factors[k * call.rows + k].into())).collect();
+                told.smallest = chosen(&pivots).wide().to_bits()
+            }
+        };
+        assert_eq!(tries.function(change), LuCompute);
+    };
+    let least = |numbers: &[T]| numbers.iter().fold(T::infinity(), |least, x| if *x < least { *x } else { least });
+    let magnitudes = |pivots: &[T]| pivots.iter().map(|x| x.magnitude()).collect::<Vec<T>>();
+    found(&|pivots| least(&magnitudes(&pivots[1..])));
+    found(&|pivots| least(&magnitudes(&pivots[..pivots.len() - 1])));
+    found(&|pivots| least(pivots));
+    found(&|pivots| pivots.iter().copied().find(|x| x.is_nan()).unwrap_or(least(&magnitudes(pivots))));
+    found(&|pivots| magnitudes(pivots).iter().fold(T::zero(), |most, x| if *x > most { *x } else { most }));
+}
+
+/// How many of its factorings frechet_logm makes for the first logarithm.
+fn of_first_logarithm<T: Width>(call: &Call<T>) -> usize {
+    match answer(&Call::coded(Logm, call.rows, &call.matrix, &[], T::zero())) {
+        Outcome::Done(done) => factorings(&Call { function: Logm, ..call.clone() }, Some(&done.outputs)).len(),
+        outcome => panic!("{outcome:?}"),
+    }
+}
+
+/// Which smallest pivots a call reports on, of those of its factorings.
+type Chosen<'a, T> = &'a dyn Fn(&Call<T>, Vec<T>) -> Vec<T>;
+
+/// Reports of some of a function's factorings only, or of one that it does not make.
+fn wrong_factorings<T: Width>(tries: &Tries<T>) {
+    let found = |wrong: Function, chosen: Chosen<T>| {
+        let change = |call: &Call<T>, _: &mut Lent<T>, told: &mut Told| {
+            if call.function == wrong
+                && let Outcome::Done(done) = answer(call)
+            {
+                told.smallest = smallest(&chosen(call, factorings(call, Some(&done.outputs)))).to_bits()
+            }
+        };
+        assert_eq!(tries.function(change), wrong);
+    };
+    let places = |all: Vec<T>, is_kept: &dyn Fn(usize) -> bool| -> Vec<T> {
+        all.into_iter().enumerate().filter(|(k, _)| is_kept(*k)).map(|(_, x)| x).collect()
+    };
+    for several in [Logm, Sqrtm, FrechetLogm, FrechetSqrtm, Powm] {
+        found(several, &|_, all| places(all, &|k| k == 0));
+        found(several, &|_, all| all.last().copied().into_iter().collect());
+        found(several, &|_, all| places(all, &|k| k > 0));
+    }
+    // Those of y alone, and those of z.
+    found(Sqrtm, &|_, all| places(all, &|k| k % 2 == 1));
+    found(Sqrtm, &|_, all| places(all, &|k| k % 2 == 0));
+    // One logarithm alone; the root without the system of its derivative; the logarithm without the exponential, and the other way round.
+    found(FrechetLogm, &|call, all| all[..of_first_logarithm(call)].to_vec());
+    found(FrechetLogm, &|call, all| all[of_first_logarithm(call)..].to_vec());
+    found(FrechetSqrtm, &|_, all| all[..all.len().saturating_sub(1)].to_vec());
+    found(Powm, &|_, all| all[..all.len().saturating_sub(1)].to_vec());
+    // None, and one that is not made, of the matrix.
+    for one in [Expm, FrechetExpm, CondExpm, LuCompute] {
+        found(one, &|_, _| Vec::new());
+    }
+    for none in [Cosm, Sinm, Powm, LuSolve, LuDeterminant] {
+        found(none, &|call, all| if all.is_empty() { alone(call) } else { all });
     }
 }
 
@@ -243,6 +355,9 @@ fn harness<T: Width>() {
     }
     wrong_numbers(&tries);
     wrong_reports(&tries);
+    wrong_smallest(&tries);
+    wrong_pivots(&tries);
+    wrong_factorings(&tries);
     wrong_leavings(&tries);
     beside_the_slices(&tries);
     outside_the_compared_domain(&tries);
@@ -256,6 +371,21 @@ fn faults_are_found() {
 #[test]
 fn faults_are_found_in_f32() {
     harness::<f32>();
+}
+
+/// In f32 the number is widened: neither the bits of the f32 number, nor those of the smallest pivot that the f64 call has.
+#[test]
+fn a_number_of_the_wrong_width_is_found() {
+    let tries = Tries::<f32>::new();
+    tries.found(|_, _, told| told.smallest = (f64::from_bits(told.smallest) as f32).to_bits().into());
+    let (call, _) = tries.found(|call, _, told| {
+        if call.function == Expm && told.number == 0 {
+            let matrix: Vec<f64> = call.matrix.iter().map(|x| f64::from(*x)).collect();
+            let wide = answer(&Call::coded(Expm, call.rows, &matrix, &[], 0.0));
+            told.smallest = wide.smallest().unwrap_or(f64::INFINITY).to_bits()
+        }
+    });
+    assert_eq!(call.function, Expm);
 }
 
 /// A run counts every call, and ends at the first that differs.

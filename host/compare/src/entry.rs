@@ -4,7 +4,7 @@
 pub type Entry<'a> = &'a dyn Fn(&[u8], &mut [u8]) -> usize;
 
 /// The length of output that the entry asks for.
-pub const ROOM: usize = 35_000;
+pub const ROOM: usize = 35_500;
 
 /// The entry of the static library that this was built with. build.rs says where the library is looked for; where it is not there, None.
 #[cfg(port)]

@@ -1,4 +1,4 @@
-//! What the entry must do with a sheet: document 01's lines, with the numbers of the source.
+//! What the entry must do with a sheet: document 01's lines with the numbers of the source, each ended by the smallest pivot of document 02's #103.
 
 use crate::entry::ROOM;
 use crate::sheet::{Sheet, read};
@@ -45,7 +45,7 @@ fn refused(task: usize, Refusal(number, first, second): Refusal) -> String {
 }
 
 /// The line of a task that is done.
-pub fn done<'a>(task: usize, halvings: usize, numbers: impl Iterator<Item = &'a f64>) -> String {
+fn done<'a>(task: usize, halvings: usize, numbers: impl Iterator<Item = &'a f64>) -> String {
     let mut line = format!("{task} ok {halvings}");
     for x in numbers {
         write!(line, " {:016x}", word(*x)).unwrap();
@@ -53,21 +53,21 @@ pub fn done<'a>(task: usize, halvings: usize, numbers: impl Iterator<Item = &'a 
     line
 }
 
-/// How many numbers a function's line has at order n.
-pub fn count(function: Function, n: usize) -> usize {
+/// How many outputs a function's line has at order n.
+fn count(function: Function, n: usize) -> usize {
     if function == Function::CondExpm { 1 } else { function.output_count() * n * n }
 }
 
-/// Task is the task's number, from 1. The norms that follow the ratio of cond_expm are not on its line.
+/// Task is the task's number, from 1. The smallest pivot follows the last output. The norms that follow the ratio of cond_expm are not on its line.
 fn line(task: usize, function: Function, n: usize, outcome: &Outcome) -> Line {
     let count = count(function, n);
     match outcome {
         Outcome::Refused(refusal) => Line::Text(refused(task, *refusal)),
         Outcome::Done(d) => {
-            let text = done(task, d.halvings, d.outputs.iter().flatten().take(count));
-            if d.near { Line::LeftOut(count, Some(text)) } else { Line::Text(text) }
+            let text = done(task, d.halvings, d.outputs.iter().flatten().take(count).chain([&d.smallest]));
+            if d.near { Line::LeftOut(count + 1, Some(text)) } else { Line::Text(text) }
         }
-        Outcome::Parted => Line::LeftOut(count, None),
+        Outcome::Parted => Line::LeftOut(count + 1, None),
     }
 }
 

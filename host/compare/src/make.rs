@@ -77,11 +77,14 @@ fn damaged(sheet: &Sheet, r: &mut Random) -> Vec<u8> {
     bytes
 }
 
+/// Lengths of lent outputs: too short, at the limit that stood before #103 and beside the one that stands, and longer.
+const LENT: [usize; 8] = [0, 1, 17_750, 35_000, ROOM - 1, ROOM + 1, ROOM + 64, 2 * ROOM];
+
 /// A trial depends on the seed and its number only, so that one can be run again alone.
 pub fn trial(seed: u64, number: u64) -> Trial {
     let mut r = Random::new(Random::new(seed).bits() ^ number.wrapping_mul(0x9e37_79b9_7f4a_7c15));
     let sheet = sheet(&mut r);
     let bytes = if r.once_in(5) { damaged(&sheet, &mut r) } else { sheet.bytes() };
-    let lent = if r.once_in(10) { r.pick(&[0, 1, 17_500, 34_999, 35_001, 35_064, 70_000]) } else { ROOM };
+    let lent = if r.once_in(10) { r.pick(&LENT) } else { ROOM };
     Trial { bytes, lent }
 }

@@ -155,6 +155,12 @@ fn a_wrong_limit_is_found() {
     assert_eq!(low.lent, ROOM - 1, "{low}");
     let high = first_difference(&|bytes, output| if output.len() <= ROOM { 0 } else { stand_in(bytes, output) });
     assert_eq!(high.lent, ROOM, "{high}");
+    // The limit that stood before #103.
+    let old = first_difference(&|bytes, output| {
+        let text = text(bytes, ROOM);
+        if output.len() < 35_000 { 0 } else { put(output, &text) }
+    });
+    assert!((35_000..ROOM).contains(&old.lent), "{old}");
 }
 
 /// A NaN that is printed with its sign.
@@ -162,6 +168,60 @@ fn a_wrong_limit_is_found() {
 fn a_negative_nan_is_found() {
     let d = changed(|_, text| text.replace("7ff8000000000000", "fff8000000000000"));
     assert_eq!(shrunk(&d).tasks.len(), 1, "{d}");
+}
+
+/// The fields of each line that is done are changed.
+fn with_fields(text: &str, change: impl Fn(&mut Vec<&str>)) -> String {
+    let mut changed = String::new();
+    for line in text.lines() {
+        let mut fields: Vec<&str> = line.split(' ').collect();
+        if fields[1] == "ok" {
+            change(&mut fields);
+        }
+        changed += &(fields.join(" ") + "\n");
+    }
+    changed
+}
+
+/// The smallest pivot left out, written before the outputs, before the halvings, or twice.
+#[test]
+fn a_misplaced_smallest_pivot_is_found() {
+    let left_out = changed(|_, text| with_fields(&text, |fields| fields.truncate(fields.len() - 1)));
+    let before_outputs = changed(|_, text| with_fields(&text, |fields| fields[3..].rotate_right(1)));
+    let before_halvings = changed(|_, text| with_fields(&text, |fields| fields[2..].rotate_right(1)));
+    let twice = changed(|_, text| with_fields(&text, |fields| fields.push(fields[fields.len() - 1])));
+    for d in [left_out, before_outputs, before_halvings, twice] {
+        assert_eq!(shrunk(&d).tasks.len(), 1, "{d}");
+    }
+}
+
+/// For each code the smallest pivot, and nothing else, is wrong: plus infinity, or 1 where it is that.
+#[test]
+fn a_wrong_smallest_pivot_is_found() {
+    for code in 0..10 {
+        let d = changed(|bytes, text| {
+            let Ok(sheet) = read(bytes) else { return text };
+            let change = |fields: &mut Vec<&str>| {
+                let (task, last) = (fields[0].parse::<usize>().unwrap(), fields.len() - 1);
+                if sheet.tasks[task - 1].code == code {
+                    let infinite = fields[last] == "7ff0000000000000";
+                    fields[last] = if infinite { "3ff0000000000000" } else { "7ff0000000000000" };
+                }
+            };
+            with_fields(&text, change)
+        });
+        let sheet = shrunk(&d);
+        assert_eq!((sheet.tasks.len(), sheet.tasks[0].code), (1, code), "{d}");
+    }
+}
+
+/// A line that is refused has no smallest pivot.
+#[test]
+fn a_smallest_pivot_beside_a_refusal_is_found() {
+    let refused = |line: &str| line.split(' ').nth(1) == Some("no");
+    let end = |line: &str| if refused(line) { " 7ff0000000000000\n" } else { "\n" };
+    let d = changed(|_, text| text.lines().map(|line| line.to_string() + end(line)).collect());
+    assert!(d.fault.contains(" no "), "{d}");
 }
 
 /// A line outside the compared domain must still have its shape.

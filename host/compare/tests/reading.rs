@@ -29,7 +29,7 @@ fn changed(at: usize, byte: u8) -> Vec<u8> {
 fn the_46_bytes() {
     let bytes = sample("shear");
     assert_eq!(bytes.len(), 46);
-    let wanted = "1 ok 0 3ff0000000000000 4008000000000000 0000000000000000 3ff0000000000000";
+    let wanted = "1 ok 0 3ff0000000000000 4008000000000000 0000000000000000 3ff0000000000000 7ff0000000000000";
     assert_eq!(expected(&bytes, ROOM).lines(), [Line::Text(wanted.to_string())]);
     assert!(matches!(expected(&bytes, ROOM - 1), Expected::Short));
 }
@@ -75,14 +75,15 @@ fn sheets_are_read_back() {
     }
 }
 
-/// The largest sheet and the largest output, of which the lent 35,000 bytes are said to be enough.
+/// The longest sheet, and its output: a line has at most 2,202 bytes, so that 16 have at most 35,232. Here the halvings have one digit, and nine of the
+/// task numbers.
 #[test]
 fn the_longest() {
     let bytes = sample("longest");
     assert_eq!(bytes.len(), 4708);
     let length = |line: &Line| if let Line::Text(text) = line { text.len() + 1 } else { 0 };
     let written: usize = expected(&bytes, ROOM).lines().iter().map(length).sum();
-    assert!(written > 34_800 && written <= 34_983, "{written}");
+    assert_eq!(written, 16 * 2202 - 16 - 9);
 }
 
 /// The files in samples/ are those that `compare samples` writes.

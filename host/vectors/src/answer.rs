@@ -1,10 +1,11 @@
-//! The answer of a call: document 01's questions and question 17 of document 02's #102, and then the source.
+//! The answer of a call: document 01's questions and question 17 of document 02's #102, then the source, and the smallest pivot of #103.
 
 use crate::call::{Call, Done, Function::*, Outcome, Refusal};
 use crate::norms::{
     MOST_HALVINGS, block, even_direction, frobenius_norm, halvings, near_power_of_two, one_norm, source_halvings,
 };
 use crate::questions::asked;
+use crate::smallest::{factorings, smallest, whole};
 use crate::width::Width;
 use oracle::{Lu, LuError, MatFunError};
 
@@ -20,7 +21,7 @@ fn two<T>(given: Result<(Vec<T>, Vec<T>), MatFunError>) -> Given<T> {
 }
 
 fn done<T>(halvings: usize, outputs: [Vec<T>; 2]) -> Outcome<T> {
-    Outcome::Done(Done { halvings, near: false, outputs, pivots: Vec::new() })
+    Outcome::Done(Done { halvings, near: false, smallest: f64::INFINITY, outputs, pivots: Vec::new() })
 }
 
 /// A function without halvings. After questions 1 to 11 the source's only refusal is NotConverged.
@@ -53,7 +54,7 @@ fn halved<T: Width>(norm: T, run: impl Fn() -> Given<T>) -> Outcome<T> {
 
 fn power<T: Width>(n: usize, a: &[T], p: T) -> Outcome<T> {
     let run = || one(oracle::powm(n, n, a, p));
-    if (p.wide() - p.wide().round()).abs() < 1e-14 {
+    if whole(p).is_some() {
         return plain(run());
     }
     // A fractional power's exponential halves its argument, which is the exponent times the logarithm. The answer reports 0, refusal 17
@@ -87,10 +88,8 @@ fn factors<T: Width>(c: &Call<T>) -> Lu<T> {
     lu
 }
 
-pub fn answer<T: Width>(c: &Call<T>) -> Outcome<T> {
-    if let Err(refusal) = asked(c) {
-        return Outcome::Refused(refusal);
-    }
+/// What the source does with a call that passes questions 1 to 11.
+fn computed<T: Width>(c: &Call<T>) -> Outcome<T> {
     let (n, a, m, e) = (c.rows, &c.matrix[..], c.companion_columns, &c.companion[..]);
     match c.function {
         Expm => halved(one_norm(n, a), || one(oracle::expm(n, n, a))),
@@ -107,6 +106,7 @@ pub fn answer<T: Width>(c: &Call<T>) -> Outcome<T> {
             Ok(lu) => Outcome::Done(Done {
                 halvings: 0,
                 near: false,
+                smallest: f64::INFINITY,
                 outputs: [lu.factors(), Vec::new()],
                 pivots: lu.pivots().to_vec(),
             }),
@@ -118,4 +118,18 @@ pub fn answer<T: Width>(c: &Call<T>) -> Outcome<T> {
         Kron => done(0, [oracle::kron(n, c.columns, a, c.companion_rows, m, e), Vec::new()]),
         KronSum => done(0, [oracle::kron_sum(n, n, a, m, m, e), Vec::new()]),
     }
+}
+
+/// The steps that lead to the outputs, or to refusal 13 or 14, are repeated for the smallest pivot.
+pub fn answer<T: Width>(c: &Call<T>) -> Outcome<T> {
+    if let Err(refusal) = asked(c) {
+        return Outcome::Refused(refusal);
+    }
+    let mut outcome = computed(c);
+    match &mut outcome {
+        Outcome::Done(done) => done.smallest = smallest(&factorings(c, Some(&done.outputs))),
+        Outcome::Refused(Refusal(13 | 14, _, _)) => drop(factorings(c, None)),
+        _ => {}
+    }
+    outcome
 }

@@ -73,6 +73,11 @@ impl Function {
         matches!(self, Expm | Powm | Cosm | Sinm | FrechetExpm | CondExpm)
     }
 
+    /// The functions that factor a matrix: sqrtm and frechet_sqrtm from order 2 on, powm where its exponent is a fraction or a negative integer.
+    pub fn factors(self) -> bool {
+        !matches!(self, Cosm | Sinm | LuSolve | LuDeterminant | Kron | KronSum)
+    }
+
     /// A direction, a right-hand side or a second matrix stands beside the matrix.
     pub fn has_companion(self) -> bool {
         self.directed() || self == LuSolve || self.kronecker()
@@ -163,6 +168,8 @@ pub struct Done<T = f64> {
     pub halvings: usize,
     /// The norm that sets the halvings lies within relative distance 2^-40 (2^-12 in f32) of a power of two. Both counts agree there.
     pub near: bool,
+    /// The smallest pivot magnitude of the factorings that succeeded, or plus infinity; in f32 the f32 number, widened.
+    pub smallest: f64,
     pub outputs: [Vec<T>; 2],
     pub pivots: Vec<usize>,
 }
@@ -173,6 +180,17 @@ pub enum Outcome<T = f64> {
     Refused(Refusal),
     /// The source takes another number of halvings than document 01 defines: a listed difference, not compared.
     Parted,
+}
+
+impl<T> Outcome<T> {
+    /// The smallest pivot that a call with this outcome reports: plus infinity after a refusal, and none where it is not known.
+    pub fn smallest(&self) -> Option<f64> {
+        match self {
+            Outcome::Done(done) => Some(done.smallest),
+            Outcome::Refused(_) => Some(f64::INFINITY),
+            Outcome::Parted => None,
+        }
+    }
 }
 
 /// The bits of a number; every NaN is written as one.
@@ -186,6 +204,11 @@ pub fn word<T: Width>(x: T) -> u64 {
 fn put_number<T: Width>(line: &mut String, x: T) {
     let digits = T::BITS as usize / 4;
     write!(line, " {:0digits$x}", word(x)).unwrap();
+}
+
+/// A space and the bits of an f64, as they are: it is a NaN in planted vectors only.
+fn put_smallest(line: &mut String, smallest: f64) {
+    write!(line, " {:016x}", smallest.to_bits()).unwrap();
 }
 
 fn put_numbers<T: Width>(line: &mut String, numbers: &[T]) {
@@ -219,6 +242,7 @@ pub fn line<T: Width>(call: &Call<T>, outcome: &Outcome<T>) -> Option<String> {
         Outcome::Done(done) => {
             line.push_str(if done.near { " | near" } else { " | ok" });
             put_counts(&mut line, &[done.halvings]);
+            put_smallest(&mut line, done.smallest);
             put_numbers(&mut line, &done.outputs[0]);
             put_numbers(&mut line, &done.outputs[1]);
             put_pivots(&mut line, &done.pivots);

@@ -33,11 +33,12 @@ pub enum Kind {
     Overflowing,
     Nonfinite,
     AtLimit,
+    HalfTurn,
 }
 
 use Kind::*;
 
-/// Every kind with finite entries, but for the one that is made for functions that halve.
+/// Every kind with finite entries, but for those that are made for functions that halve, and for frechet_sqrtm.
 const FINITE: [Kind; 22] = [
     SmallIntegers,
     Normal,
@@ -188,6 +189,24 @@ fn at_tolerance<T: Width>(n: usize, r: &mut Random) -> Vec<T> {
     a
 }
 
+/// Pairs of rows turn by nearly half a turn and are scaled; a last row alone is 1. In a run of frechet_sqrtm the system of order n × n then has the smallest
+/// pivot, which it seldom has otherwise.
+fn half_turn<T: Width>(n: usize, r: &mut Random) -> Vec<T> {
+    let mut a = vec![T::zero(); n * n];
+    let size = T::of(r.pick(&[0.25, 0.5, 3.0, 4.0]));
+    let rest = size * T::of(r.sign() * r.power_of_two(-9, -5));
+    for i in 0..n {
+        let pair = i ^ 1;
+        if pair >= n {
+            a[i * n + i] = T::one();
+        } else {
+            a[i * n + i] = -size;
+            a[i * n + pair] = if i < pair { -rest } else { rest };
+        }
+    }
+    a
+}
+
 pub fn square<T: Width>(kind: Kind, n: usize, r: &mut Random) -> Vec<T> {
     if n == 0 {
         return Vec::new();
@@ -269,6 +288,7 @@ pub fn square<T: Width>(kind: Kind, n: usize, r: &mut Random) -> Vec<T> {
                 }
             }
         }
+        HalfTurn => a = half_turn(n, r),
         AtPower => {
             // A diagonal whose 1-norm is a power of two or next to it, or that less 1, as cosine and sine add 1.
             let power = T::of(if r.once_in(4) { r.power_of_two(0, T::LARGEST) } else { r.power_of_two(0, 40) });
@@ -303,6 +323,7 @@ pub fn square<T: Width>(kind: Kind, n: usize, r: &mut Random) -> Vec<T> {
 pub fn matrix_for<T: Width>(function: Function, n: usize, r: &mut Random) -> Vec<T> {
     let kind = match function {
         Expm | Cosm | Sinm | FrechetExpm | CondExpm if r.once_in(16) => AtLimit,
+        FrechetSqrtm if r.once_in(8) => HalfTurn,
         Logm | Sqrtm | Powm | FrechetLogm | FrechetSqrtm if r.once_in(2) => r.pick(&ROOTED),
         Expm | Cosm | Sinm | FrechetExpm | CondExpm if r.once_in(2) => r.pick(&[Normal, Scaled, Symmetric]),
         _ if !function.coded() && r.once_in(6) => Nonfinite,

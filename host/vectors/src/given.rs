@@ -96,6 +96,10 @@ pub fn given<T: Width>(function: Function) -> Vec<Call<T>> {
     if function == Powm {
         calls.push(root_of_shear(T::of(1e25)));
     }
+    if function == FrechetSqrtm {
+        // Nearly half a turn: the system of order 4 has the smallest pivot.
+        calls.push(Call::coded(function, 2, &rounded(&[-0.25, -0.015625, 0.015625, -0.25]), &counting(2), T::zero()));
+    }
     if function == FrechetExpm {
         calls.extend(T::EDGES.directed.map(directed));
     }

@@ -12,4 +12,5 @@ pub mod questions;
 pub mod random;
 pub mod read;
 pub mod roots;
+pub mod smallest;
 pub mod width;

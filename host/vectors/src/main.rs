@@ -1,6 +1,6 @@
 //! `vectors NAME SEED COUNT` prints COUNT calls of one function with their answers, `vectors given NAME` those that are written out, and
-//! `vectors roots` square roots. `vectors planted NAME` and `vectors planted roots` print one line that is wrong in one bit. With f32 before the other
-//! words the numbers are f32.
+//! `vectors roots` square roots. `vectors planted NAME` prints two calls that are wrong in one bit each, `vectors planted roots` one such root. With f32
+//! before the other words the numbers are f32.
 
 use std::env::args;
 use std::io::{BufWriter, Result, Write, stdout};
@@ -61,11 +61,10 @@ fn print_given<T: Width>(function: Function) -> Result<()> {
 }
 
 fn print_planted<T: Width>(function: Function) -> Result<()> {
-    let (call, outcome) = planted::<T>(function);
-    match line(&call, &outcome) {
-        Some(text) => writeln!(stdout(), "{text}"),
-        None => Ok(()),
+    for text in planted::<T>(function).iter().filter_map(|(call, outcome)| line(call, outcome)) {
+        writeln!(stdout(), "{text}")?;
     }
+    Ok(())
 }
 
 fn usage() -> ! {

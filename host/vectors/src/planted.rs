@@ -17,19 +17,39 @@ fn last_number<T: Width>(done: &mut Done<T>) -> Option<&mut T> {
     done.outputs.iter_mut().rev().find(|x| !x.is_empty())?.last_mut().filter(|x| x.is_finite())
 }
 
-/// A call that is done, with an outcome whose last number has another last bit than the answer's. Each function has one.
-pub fn planted<T: Width>(function: Function) -> (Call<T>, Outcome<T>) {
+/// The first call of a function that is done and that the change can be made to, with the outcome that it makes wrong.
+fn changed<T: Width>(function: Function, change: impl Fn(&mut Done<T>) -> bool) -> (Call<T>, Outcome<T>) {
     let mut random = Random::new(function as u64);
     loop {
         let call: Call<T> = case(function, &mut random);
         let mut outcome = answer(&call);
         if let Outcome::Done(done) = &mut outcome
-            && let Some(x) = last_number(done)
+            && change(done)
         {
-            *x = T::of_bits(x.bits() ^ 1);
             return (call, outcome);
         }
     }
+}
+
+/// Another last bit of the last number.
+fn wrong_output<T: Width>(done: &mut Done<T>) -> bool {
+    let last = last_number(done);
+    last.map(|x| *x = T::of_bits(x.bits() ^ 1)).is_some()
+}
+
+/// Another last bit of the smallest pivot, which is finite where the function factors; with another last bit plus infinity is a NaN.
+fn wrong_smallest<T: Width>(function: Function, done: &mut Done<T>) -> bool {
+    let suits = last_number(done).is_some() && done.smallest.is_finite() == function.factors();
+    if suits {
+        done.smallest = f64::from_bits(done.smallest.to_bits() ^ 1);
+    }
+    suits
+}
+
+/// Two calls that are done, each with an outcome that is wrong in one last bit: of the last number of its outputs, and of its smallest pivot. Each
+/// function has them.
+pub fn planted<T: Width>(function: Function) -> [(Call<T>, Outcome<T>); 2] {
+    [changed(function, wrong_output), changed(function, |done| wrong_smallest(function, done))]
 }
 
 /// The bits of 2, and those of its square root with another last bit.

@@ -48,9 +48,9 @@ pub fn read<T: Width>(line: &str) -> (Call<T>, Outcome<T>) {
         "no" => Outcome::Refused(Refusal(f.count(), f.count(), f.count())),
         word => {
             assert!(word == "ok" || word == "near");
-            let halvings = f.count();
+            let (halvings, smallest) = (f.count(), f64::from_bits(f.bits()));
             let outputs = [f.numbers(), f.numbers()];
-            Outcome::Done(Done { halvings, near: word == "near", outputs, pivots: f.counts() })
+            Outcome::Done(Done { halvings, near: word == "near", smallest, outputs, pivots: f.counts() })
         }
     };
     assert!(f.0.next().is_none(), "extra fields");

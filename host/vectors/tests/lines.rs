@@ -44,11 +44,11 @@ fn lines_are_read_back() {
 fn a_line_in_full() {
     let text = "powm 2 2 0 0 4 0 2000 4008000000000000 \
                 4 3ff0000000000000 3ff0000000000000 0000000000000000 3ff0000000000000 0 0 \
-                | ok 0 4 3ff0000000000000 4008000000000000 0000000000000000 3ff0000000000000 0 0";
+                | ok 0 7ff0000000000000 4 3ff0000000000000 4008000000000000 0000000000000000 3ff0000000000000 0 0";
     let (call, _) = read::<f64>(text);
     assert_eq!(line(&call, &answer(&call)).unwrap(), text);
     let text = "powm 2 2 0 0 4 0 2000 40400000 4 3f800000 3f800000 00000000 3f800000 0 0 \
-                | ok 0 4 3f800000 40400000 00000000 3f800000 0 0";
+                | ok 0 7ff0000000000000 4 3f800000 40400000 00000000 3f800000 0 0";
     let (call, _) = read::<f32>(text);
     assert_eq!(line(&call, &answer(&call)).unwrap(), text);
 }
@@ -185,18 +185,28 @@ fn powers_of_zero() {
     assert!(matches!(answer(zero(0.0)), Outcome::Done(done) if done.outputs[0] == [1.0, 0.0, 0.0, 1.0]));
 }
 
-/// A planted vector has another last bit in one number, and nothing else is wrong in it.
+/// The place of the one field that is wrong in its last bit: 0 is the first word after the bar.
+fn wrong_place<T: Width>(call: &Call<T>, outcome: &Outcome<T>) -> usize {
+    let (text, right) = (line(call, outcome).unwrap(), line(call, &answer(call)).unwrap());
+    assert_eq!(text.len(), right.len());
+    let fields = |text: &str| text.split_once(" | ").unwrap().1.split(' ').map(str::to_string).collect::<Vec<_>>();
+    let (text, right) = (fields(&text), fields(&right));
+    let wrong: Vec<usize> = (0..text.len()).filter(|k| text[*k] != right[*k]).collect();
+    let [x, y] = [&text, &right].map(|fields| u64::from_str_radix(&fields[wrong[0]], 16).unwrap());
+    assert_eq!((wrong.len(), x ^ y), (1, 1));
+    wrong[0]
+}
+
+/// Planted vectors have another last bit in one number, an output's or the smallest pivot, and nothing else is wrong in them.
 fn are_wrong_in_one_bit<T: Width>() {
-    for (function, _) in FUNCTIONS {
-        let (call, outcome) = planted::<T>(function);
-        let text = line(&call, &outcome).unwrap();
-        assert_eq!(line(&call, &planted(function).1).unwrap(), text, "the same each time");
-        let right = line(&call, &answer(&call)).unwrap();
-        let parted: Vec<(&str, &str)> = text.split(' ').zip(right.split(' ')).filter(|(x, y)| x != y).collect();
-        assert_eq!(text.len(), right.len());
-        assert_eq!(parted.len(), 1);
-        let [x, y] = [parted[0].0, parted[0].1].map(|x| u64::from_str_radix(x, 16).unwrap());
-        assert_eq!(x ^ y, 1);
+    for (function, name) in FUNCTIONS {
+        let texts = || planted::<T>(function).map(|(call, outcome)| line(&call, &outcome).unwrap());
+        assert_eq!(texts(), texts(), "the same each time");
+        let [first, second] = planted::<T>(function);
+        assert!(wrong_place(&first.0, &first.1) > 3, "{name}");
+        assert_eq!(wrong_place(&second.0, &second.1), 2, "{name}");
+        let right = answer(&second.0).smallest().unwrap();
+        assert_eq!(right.is_finite(), function.factors(), "{name}");
     }
     let (x, root) = planted_root::<T>();
     assert_eq!(root ^ T::of_bits(x).sqrt().bits(), 1);

@@ -1,5 +1,7 @@
 -- `deliver` meets its contract. Assumes nothing.
+use mathlib.Core.Path.{refl, ap}
 use denote.Ref.{now}
+use Rattle.arithmetic_questions.specs.Answers.{reported}
 use Rattle.arithmetic_questions.proofs.OutputLaws.{delivered-done, delivered-none}
 use borrow.Author.Needs.{needs}
 use Rattle.arithmetic_questions32.proofs.output.deliver.Statement.{statement}
@@ -7,16 +9,22 @@ use Rattle.arithmetic_questions32.proofs.output.deliver.Tie as tie
 
 returns : tie.Need-returns
 returns c =
-    let (done, clear-where, copy-out, call, s) : tie.After-done × tie.After-clear-where × tie.After-copy-out × tie.After-outcome × tie.Start = search in
+    let (clear-where, copy-out, told, s) : tie.After-clear-where × tie.After-copy-out × tie.After-enum-told × tie.Start = search in
     let a = s .args in
-    delivered-done (a .clears) (a .outcome) (done .done .result .outcome) _ (now (a .out)) (copy-out .copy-out .last .1 .1 .0) (now (a .w)) (clear-where .clear-where .last .0) _ (call .outcome .given .1) (done .done .ensures)
-    (copy-out .copy-out .ensures) (clear-where .clear-where .ensures)
+    let e = told .enum-told .given .1 in (
+      delivered-done (a .clears) (a .answer .outcome) (a .answer .outcome) _ (now (a .out)) (copy-out .copy-out .last .1 .1 .0) (now (a .w)) (clear-where .clear-where .last .0) _ e (ap reported e)
+          (copy-out .copy-out .ensures) (clear-where .clear-where .ensures),
+      refl,
+    )
 
 returns-2 : tie.Need-returns-2
 returns-2 c =
-    let (refused, clear-where2, call, s) : tie.After-refused × tie.After-clear-where2 × tie.After-outcome2 × tie.Start = search in
+    let (clear-where2, told, s) : tie.After-clear-where2 × tie.After-enum-told2 × tie.Start = search in
     let a = s .args in
-    delivered-none (a .clears) (a .outcome) (refused .refused .result .outcome) _ (now (a .out)) (now (a .w)) (clear-where2 .clear-where2 .last .0) _ (call .outcome2 .given .1) (refused .refused .ensures) (clear-where2 .clear-where2 .ensures)
+    let e = told .enum-told2 .given .1 in (
+      delivered-none (a .clears) (a .answer .outcome) (a .answer .outcome) _ (now (a .out)) (now (a .w)) (clear-where2 .clear-where2 .last .0) _ e (ap reported e) (clear-where2 .clear-where2 .ensures),
+      refl,
+    )
 
 pub deliver-spec : {M : Type 1} → statement M
 deliver-spec =
@@ -25,9 +33,7 @@ deliver-spec =
     (λ c. search needs)
     (λ c κs. search needs)
     (λ c κs. search needs)
-    (λ c κs. search needs)
     (λ c. search needs)
-    (λ c κs. search needs)
     (λ c κs. search needs)
     (λ c. search needs)
     (λ c. search needs)

@@ -3,15 +3,20 @@ use Prim.Native.Nat.{_≤_}
 use native.Mathlib.Omega.{arith}
 use denote.Ref.{now}
 use lib.Ieee.{binary64}
-use Rattle.functions_exponential.proofs.ConditionLaws.{condition-steps, condition-only}
+use Rattle.functions_exponential.proofs.ConditionLaws.{condition-steps, condition-only, condition-reported}
 use borrow.Author.Needs.{needs}
 use Rattle.functions_exponential.proofs.condition.cond_expm_in.Statement.{statement}
 use Rattle.functions_exponential.proofs.condition.cond_expm_in.Tie as tie
 
+-- the places before the derivative, which are out of reach from the end
+abbrev begun : tie.After-frechet-expm-in → tie.After-unit-direction × tie.Start
+begun derived = search
+
 returns : tie.Need-returns
 returns c =
-    let (condition, frechet-expm-in, unit-direction, s) :
-    tie.After-condition-answer × tie.After-frechet-expm-in × tie.After-unit-direction × tie.Start = search in
+    let condition : tie.After-condition-answer = search in
+    let frechet-expm-in : tie.After-frechet-expm-in = search in
+    let (unit-direction, s) = begun frechet-expm-in in
     let a = s .args in
     let u = unit-direction .unit-direction in
     let f = frechet-expm-in .frechet-expm-in in
@@ -21,8 +26,11 @@ returns c =
     let x′ = f .last .1 .1 .1 .0 in
     let d′ = f .last .1 .1 .1 .1 .0 in
     let w2 = f .last .1 .1 .1 .1 .1 .0 in (
-      condition-steps binary64 n few (now (a .a)) (now (a .w)) (u .last .0) w2 (u .last .1 .1 .0) (now (a .x)) x′ (now (a .d)) d′ (f .result) (u .ensures .1) (u .ensures .0) (f .ensures) (k .result .outcome) _ (k .ensures),
-      condition-only binary64 n few (now (a .a)) (now (a .w)) (u .last .0) w2 (u .last .1 .1 .0) (now (a .x)) x′ (now (a .d)) d′ (f .result) (u .ensures .1) (u .ensures .0) (f .ensures),
+      condition-steps binary64 n few (now (a .a)) (now (a .w)) (u .last .0) w2 (u .last .1 .1 .0) (now (a .x)) x′ (now (a .d)) d′ (f .result .outcome) (u .ensures .1) (u .ensures .0) (f .ensures .0) (k .result .outcome) _ (k .ensures .0),
+      (
+        condition-only binary64 n few (now (a .a)) (now (a .w)) (u .last .0) w2 (u .last .1 .1 .0) (now (a .x)) x′ (now (a .d)) d′ (f .result .outcome) (u .ensures .1) (u .ensures .0) (f .ensures .0),
+        condition-reported binary64 n few (now (a .a)) (now (a .w)) (u .last .0) w2 (u .last .1 .1 .0) (now (a .x)) x′ (now (a .d)) d′ (f .result .outcome) (u .ensures .1) (u .ensures .0) (f .ensures .0) (f .result .report) (k .result .report) (f .ensures .1) (k .ensures .1),
+      ),
     )
 
 pub cond-expm-in-spec : {M : Type 1} → statement M

@@ -11,6 +11,8 @@ use Rattle.arithmetic_questions.proofs.AnswerLaws.{workspace-no}
 use Rattle.arithmetic_questions.proofs.OutputLaws.{kept-where}
 use Rattle.functions_definitions.specs.Derivatives.{condExpM}
 use Rattle.functions_definitions.specs.Calls.{condExpm}
+use Rattle.functions_definitions.specs.Reports.{condExpReport}
+use Rattle.arithmetic_questions.proofs.ReportLaws.{report-refused, report-passed}
 use Rattle.functions_exponential.proofs.ConditionLaws.{condition-refused, condition-passed, workspace-passed}
 use Rattle.functions_definitions.proofs.LateLaws.{late-condExpM}
 use borrow.Author.Needs.{needs}
@@ -33,7 +35,7 @@ clear-where-requires c κs =
     let asked = ask-cond-expm .ask-cond-expm in
     let call = unary (a .rows) (a .columns) (now (a .a)) [] (length (now (a .w))) in
     let s = accepted withoutExponent anywhere everyOrder call (asked .result) (asked .ensures) (told .enum-told .given .1) .shape in
-    omega (arith, s .room, cond .cond-expm-with-room .ensures .1 .long)
+    omega (arith, s .room, cond .cond-expm-with-room .ensures .1 .0 .long)
 
 returns : tie.Need-returns
 unfolding condExpm
@@ -44,9 +46,13 @@ returns c =
     let call = unary (a .rows) (a .columns) (now (a .a)) [] (length (now (a .w))) in
     let r = refused .refused-condition in
     let x = condExpM binary64 (a .rows) (now (a .a)) in
-    let t = why .why .given .1 in (
-      condition-refused ofCondExpm call (asked .result) (asked .ensures) x (r .result .outcome) _ _ t (r .ensures .0) (r .ensures .1),
-      kept-where (a .clears) (condExpm binary64 (a .rows) (a .columns) (now (a .a)) (length (now (a .w)))) (now (a .w)) (sym (workspace-no ofCondExpm call x (asked .result) (asked .ensures) _ t (now (a .w)))),
+    let t = why .why .given .1 in
+    let C = condition-refused ofCondExpm call (asked .result) (asked .ensures) x (r .result .outcome) _ _ t (r .ensures .0) (r .ensures .1 .0) in (
+      C,
+      (
+        kept-where (a .clears) (condExpm binary64 (a .rows) (a .columns) (now (a .a)) (length (now (a .w)))) (now (a .w)) (sym (workspace-no ofCondExpm call x (asked .result) (asked .ensures) _ t (now (a .w)))),
+        report-refused _ (condExpReport binary64 (a .rows) (now (a .a))) (r .result .report) (r .result .outcome) (why .why .given .0 .0) (C .outcome) (r .ensures .0) (r .ensures .1 .1),
+      ),
     )
 
 returns-2 : tie.Need-returns-2
@@ -62,7 +68,10 @@ returns-2 c =
     let x = condExpM binary64 (a .rows) (now (a .a)) in
     let t = told .enum-told .given .1 in (
       condition-passed ofCondExpm call (asked .result) (asked .ensures) x (r .result .outcome) _ t (r .ensures .0),
-      workspace-passed ofCondExpm call (asked .result) (asked .ensures) x (a .clears) (now (a .w)) (r .last .1 .1 .0) (clear-where .clear-where .last .0) t (late-condExpM binary64 (a .rows) (now (a .a))) (s .room) (r .ensures .1) (clear-where .clear-where .ensures),
+      (
+        workspace-passed ofCondExpm call (asked .result) (asked .ensures) x (a .clears) (now (a .w)) (r .last .1 .1 .0) (clear-where .clear-where .last .0) t (late-condExpM binary64 (a .rows) (now (a .a))) (s .room) (r .ensures .1 .0) (clear-where .clear-where .ensures),
+        report-passed ofCondExpm call (asked .result) (asked .ensures) x _ (r .result .report) t (r .ensures .1 .1),
+      ),
     )
 
 pub cond-expm-with-spec : {M : Type 1} → statement M

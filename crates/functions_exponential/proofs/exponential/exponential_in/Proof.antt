@@ -4,7 +4,7 @@ use denote.Ref.{now}
 use lib.Ieee.{Float, binary64}
 use Rattle.arithmetic_matrices.specs.Product.{timesM}
 use Rattle.arithmetic_matrices.specs.Workspace.{slot, store}
-use Rattle.functions_exponential.proofs.ExponentialLaws.{exponential-steps}
+use Rattle.functions_exponential.proofs.ExponentialLaws.{exponential-steps, scaled-reported}
 use borrow.Author.Needs.{needs}
 use Rattle.functions_exponential.proofs.exponential.exponential_in.Statement.{statement}
 use Rattle.functions_exponential.proofs.exponential.exponential_in.Tie as tie
@@ -16,8 +16,10 @@ returns c =
     let pade1 = pade .pade in
     let scale1 = scale .scale in
     let a = s .args in
-    exponential-steps binary64 (a .n) (now (a .w)) (s .pre .0) (a .s) (scale1 .last .0) (pade1 .last .0) (square1 .last .0)
-    (scale1 .ensures ∙ ap (λ (b : Float). store (now (a .w)) 0 (timesM binary64 (a .n) b (slot (a .n) (now (a .w)) 0))) (inverse .inverse-power-of-two .ensures)) (pade1 .ensures) (square1 .ensures)
+    let e1 = scale1 .ensures ∙ ap (λ (b : Float). store (now (a .w)) 0 (timesM binary64 (a .n) b (slot (a .n) (now (a .w)) 0))) (inverse .inverse-power-of-two .ensures) in (
+      exponential-steps binary64 (a .n) (now (a .w)) (s .pre .0) (a .s) (scale1 .last .0) (pade1 .last .0) (square1 .last .0) e1 (pade1 .ensures .0) (square1 .ensures),
+      scaled-reported binary64 (a .n) (now (a .w)) (s .pre .0) (a .s) (scale1 .last .0) (pade1 .result) e1 (pade1 .ensures .1),
+    )
 
 pub exponential-in-spec : {M : Type 1} → statement M
 exponential-in-spec =

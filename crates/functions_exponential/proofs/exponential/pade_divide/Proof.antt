@@ -4,13 +4,13 @@ use native.Mathlib.Omega.{arith}
 use denote.Ref.{now}
 use lib.Ieee.{binary64}
 use Rattle.arithmetic_matrices.proofs.MatrixLaws.{square-le}
-use Rattle.functions_exponential.proofs.ExponentialLaws.{quotient-beside}
+use Rattle.functions_exponential.proofs.ExponentialLaws.{quotient-beside, quotient-reported}
 use borrow.Author.Needs.{needs}
 use Rattle.functions_exponential.proofs.exponential.pade_divide.Statement.{statement}
 use Rattle.functions_exponential.proofs.exponential.pade_divide.Tie as tie
 
-divide-requires : tie.Need-divide-requires
-divide-requires c κs =
+divide-reporting-requires : tie.Need-divide-reporting-requires
+divide-reporting-requires c κs =
     let copy : tie.After-copy = search in
     let s : tie.Start = search in
     let few = square-le (s .args .n) (s .pre .0 .order) in
@@ -19,17 +19,19 @@ divide-requires c κs =
 
 returns : tie.Need-returns
 returns c =
-    let (divide, copy, s) : tie.After-divide × tie.After-copy × tie.Start = search in
-    let d = divide .divide in
-    let copy1 = copy .copy in
-    quotient-beside binary64 (s .args .n) (now (s .args .w)) (s .pre .0) (copy1 .last .0) (d .last .0) (d .result) (copy1 .ensures) (d .ensures .0) (d .ensures .1)
+    let (divide, copy, s) : tie.After-divide-reporting × tie.After-copy × tie.Start = search in
+    let d = divide .divide-reporting in
+    let copy1 = copy .copy in (
+      quotient-beside binary64 (s .args .n) (now (s .args .w)) (s .pre .0) (copy1 .last .0) (d .last .0) (d .result .outcome) (copy1 .ensures) (d .ensures .0 .0) (d .ensures .0 .1),
+      quotient-reported binary64 (s .args .n) (now (s .args .w)) (s .pre .0) (copy1 .last .0) (d .result .smallest) (copy1 .ensures) (d .ensures .1),
+    )
 
 pub pade-divide-spec : {M : Type 1} → statement M
 pade-divide-spec =
     tie.close
     (tie.spec
     (λ c κs. search needs)
-    divide-requires
+    divide-reporting-requires
     (λ c. search needs)
     (λ c. search needs)
     returns)

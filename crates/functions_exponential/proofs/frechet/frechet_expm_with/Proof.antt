@@ -9,6 +9,8 @@ use Rattle.arithmetic_questions.proofs.QuestionLaws.{accepted-directed}
 use Rattle.arithmetic_questions.proofs.BothLaws.{two-refused}
 use Rattle.functions_definitions.specs.Derivatives.{frechetExpM}
 use Rattle.functions_definitions.specs.Calls.{frechetExpm}
+use Rattle.functions_definitions.specs.Reports.{frechetExpReport}
+use Rattle.arithmetic_questions.proofs.ReportLaws.{report-refused, report-passed}
 use Rattle.functions_exponential.proofs.FrechetLaws.{two-written, written-alone}
 use Rattle.functions_definitions.proofs.LateLaws.{late-frechetExpM}
 use Rattle.functions_definitions.proofs.FirstOutput.{refused-alone, counted}
@@ -33,7 +35,7 @@ clear-where-requires c κs =
     let asked = ask .ask-frechet-expm in
     let call = binary (a .rows) (a .columns) (now (a .a)) (a .height) (a .width) (now (a .e)) (length (now (a .first)) ∷ length (now (a .second)) ∷ []) (length (now (a .w))) in
     let (m, d) = accepted-directed withoutExponent anywhere everyOrder call (asked .result) (asked .ensures) (told .enum-told .given .1) in
-    omega (arith, m .shape .room, frechet-expm-in .frechet-expm-in .ensures .only .long)
+    omega (arith, m .shape .room, frechet-expm-in .frechet-expm-in .ensures .0 .only .long)
 
 returns : tie.Need-returns
 unfolding frechetExpm
@@ -42,9 +44,13 @@ returns c =
     let a = s .args in
     let asked = ask .ask-frechet-expm in
     let call = binary (a .rows) (a .columns) (now (a .a)) (a .height) (a .width) (now (a .e)) (length (now (a .first)) ∷ length (now (a .second)) ∷ []) (length (now (a .w))) in
-    let k = refused .refused .ensures in (
-      two-refused ofFrechetExpm call (asked .result) (asked .ensures) (a .clears) (refused .refused .result .outcome) (now (a .first)) (now (a .second)) (now (a .w)) (frechetExpM binary64 (a .rows) (now (a .a)) (now (a .e))) _ (why .why .given .1) k,
-      refused-alone binary64 (a .rows) (now (a .a)) (now (a .e)) (now (a .first)) (refused .refused .result .outcome) (why .why .given .0 .0) k,
+    let no = refused .refused in
+    let O = two-refused ofFrechetExpm call (asked .result) (asked .ensures) (a .clears) (no .result .outcome) (now (a .first)) (now (a .second)) (now (a .w)) (frechetExpM binary64 (a .rows) (now (a .a)) (now (a .e))) _ (why .why .given .1) (no .ensures .0) in (
+      O,
+      (
+        refused-alone binary64 (a .rows) (now (a .a)) (now (a .e)) (now (a .first)) (no .result .outcome) (why .why .given .0 .0) (no .ensures .0),
+        report-refused _ (frechetExpReport binary64 (a .rows) (now (a .a)) (now (a .e))) (no .result .report) (no .result .outcome) (why .why .given .0 .0) (O .outcome) (no .ensures .0) (no .ensures .1),
+      ),
     )
 
 returns-2 : tie.Need-returns-2
@@ -60,9 +66,12 @@ returns-2 c =
     let x = frechetExpM binary64 (a .rows) (now (a .a)) (now (a .e)) in
     let f = frechet-expm-in .frechet-expm-in in
     let clear1 = clear-where .clear-where in (
-      two-written ofFrechetExpm call (asked .result) (asked .ensures) (a .clears) (f .result) x (now (a .first)) (now (a .second)) (now (a .w)) (f .last .1 .1 .1 .0) (f .last .1 .1 .1 .1 .0) (f .last .1 .1 .1 .1 .1 .0) (clear1 .last .0) told
-          (late-frechetExpM binary64 (a .rows) (now (a .a)) (now (a .e))) (m .shape .room) (f .ensures) (clear1 .ensures),
-      written-alone binary64 (a .rows) (now (a .a)) (now (a .e)) (now (a .first)) (f .last .1 .1 .1 .0) (now (a .second)) (f .last .1 .1 .1 .1 .0) (now (a .w)) (f .last .1 .1 .1 .1 .1 .0) (f .result) (counted binary64 (a .rows) (m .shape .small)) (f .ensures),
+      two-written ofFrechetExpm call (asked .result) (asked .ensures) (a .clears) (f .result .outcome) x (now (a .first)) (now (a .second)) (now (a .w)) (f .last .1 .1 .1 .0) (f .last .1 .1 .1 .1 .0) (f .last .1 .1 .1 .1 .1 .0) (clear1 .last .0) told
+          (late-frechetExpM binary64 (a .rows) (now (a .a)) (now (a .e))) (m .shape .room) (f .ensures .0) (clear1 .ensures),
+      (
+        written-alone binary64 (a .rows) (now (a .a)) (now (a .e)) (now (a .first)) (f .last .1 .1 .1 .0) (now (a .second)) (f .last .1 .1 .1 .1 .0) (now (a .w)) (f .last .1 .1 .1 .1 .1 .0) (f .result .outcome) (counted binary64 (a .rows) (m .shape .small)) (f .ensures .0),
+        report-passed ofFrechetExpm call (asked .result) (asked .ensures) x _ (f .result .report) told (f .ensures .1),
+      ),
     )
 
 pub frechet-expm-with-spec : {M : Type 1} → statement M

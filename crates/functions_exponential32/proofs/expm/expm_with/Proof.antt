@@ -12,6 +12,8 @@ use Rattle.arithmetic_questions.proofs.QuestionLaws.{accepted}
 use Rattle.arithmetic_questions.proofs.OutputLaws.{one-refused, one-done}
 use Rattle.functions_definitions.specs.Powers.{expM}
 use Rattle.functions_definitions.specs.Calls.{expm}
+use Rattle.functions_definitions.specs.Reports.{expReport}
+use Rattle.arithmetic_questions.proofs.ReportLaws.{report-refused, report-delivered}
 use Rattle.functions_definitions.proofs.LateLaws.{late-expM}
 use borrow.Author.Needs.{needs}
 use Rattle.functions_exponential32.proofs.expm.expm_with.Statement.{statement}
@@ -43,7 +45,7 @@ deliver-requires c κs =
     let asked = ask-expm .ask-expm in
     let call = unary (a .rows) (a .columns) (now (a .a)) (length (now (a .out)) ∷ []) (length (now (a .w))) in
     let s = accepted withoutExponent anywhere ordersFromTwo call (asked .result) (asked .ensures) (told .enum-told .given .1) .shape in
-    (omega (arith, square-le (a .rows) (omega (arith, s .small)), s .outputs .0), omega (arith, s .room, copy-in .copy-in .kept .0, expm-in .expm-in .ensures .only .long))
+    (omega (arith, square-le (a .rows) (omega (arith, s .small)), s .outputs .0), omega (arith, s .room, copy-in .copy-in .kept .0, expm-in .expm-in .ensures .0 .only .long))
 
 returns : tie.Need-returns
 unfolding expm
@@ -52,7 +54,9 @@ returns c =
     let a = s .args in
     let asked = ask-expm .ask-expm in
     let call = unary (a .rows) (a .columns) (now (a .a)) (length (now (a .out)) ∷ []) (length (now (a .w))) in
-    one-refused ofExpm call (asked .result) (asked .ensures) (a .clears) (refused .refused .result .outcome) (now (a .out)) (now (a .w)) (expM binary32 (a .rows) (now (a .a))) _ (why .why .given .1) (refused .refused .ensures)
+    let no = refused .refused in
+    let O = one-refused ofExpm call (asked .result) (asked .ensures) (a .clears) (no .result .outcome) (now (a .out)) (now (a .w)) (expM binary32 (a .rows) (now (a .a))) _ (why .why .given .1) (no .ensures .0) in
+    (O, report-refused _ (expReport binary32 (a .rows) (now (a .a))) (no .result .report) (no .result .outcome) (why .why .given .0 .0) (O .outcome) (no .ensures .0) (no .ensures .1))
 
 returns-2 : tie.Need-returns-2
 unfolding expm
@@ -66,8 +70,12 @@ returns-2 c =
     let copy1 = copy-in .copy-in in
     let x = expm-in .expm-in in
     let d = deliver .deliver in
-    one-done ofExpm call (asked .result) (asked .ensures) (a .clears) (d .result .outcome) (now (a .out)) (now (a .w)) (0 ∷ 1 ∷ 2 ∷ 3 ∷ 4 ∷ 5 ∷ []) (a .rows) (expM binary32 (a .rows)) (now (a .a)) (d .last .1 .0) (copy1 .last .0) (x .last .0) (d .last .1 .1 .0)
-    (x .result) (told .enum-told .given .1) (late-expM binary32 (a .rows) (now (a .a))) (omega (arith, s .small)) (s .room) (s .long) (s .outputs .0) refl (copy1 .ensures) (x .ensures) (d .ensures)
+    let O = one-done ofExpm call (asked .result) (asked .ensures) (a .clears) (d .result .outcome) (now (a .out)) (now (a .w)) (0 ∷ 1 ∷ 2 ∷ 3 ∷ 4 ∷ 5 ∷ []) (a .rows) (expM binary32 (a .rows)) (now (a .a)) (d .last .1 .0) (copy1 .last .0) (x .last .0) (d .last .1 .1 .0)
+    (x .result .outcome) (told .enum-told .given .1) (late-expM binary32 (a .rows) (now (a .a))) (omega (arith, s .small)) (s .room) (s .long) (s .outputs .0) refl (copy1 .ensures) (x .ensures .0) (d .ensures .0) in (
+      O,
+      report-delivered _ _ (expReport binary32 (a .rows)) (x .result .report) (d .result .report) (d .result .outcome) (x .result .outcome) (a .rows) (now (a .a)) (now (a .w)) (copy1 .last .0) (omega (arith, square-le (a .rows) (omega (arith, s .small)), s .room)) (s .long) (copy1 .ensures)
+          (O .outcome) (x .ensures .0 .outcome) (d .ensures .0 .outcome) (x .ensures .1) (d .ensures .1),
+    )
 
 pub expm-with-spec : {M : Type 1} → statement M
 expm-with-spec =

@@ -8,8 +8,10 @@ use Rattle.arithmetic_questions.specs.Questions.{Call, binary, withoutExponent,
 use Rattle.arithmetic_matrices.proofs.MatrixLaws.{square-le}
 use Rattle.arithmetic_questions.proofs.QuestionLaws.{Accepted, AcceptedDirection, accepted-directed}
 use Rattle.arithmetic_questions.proofs.BothLaws.{two-refused, two-done}
+use Rattle.arithmetic_questions.proofs.ReportLaws.{report-refused, report-delivered-both}
 use Rattle.functions_definitions.specs.Derivatives.{frechetLogM}
 use Rattle.functions_definitions.specs.Calls.{frechetLogm}
+use Rattle.functions_definitions.specs.Reports.{frechetLogReport}
 use Rattle.functions_definitions.proofs.LateLaws.{late-frechet-logarithm}
 use native.Mathlib.Omega.{arith}
 use borrow.Author.Needs.{needs}
@@ -57,20 +59,33 @@ returns : tie.Need-returns
 unfolding frechetLogm
 returns c =
     let (refused, why, ask, s) : tie.After-refused × tie.After-why × tie.After-ask-frechet-logm × tie.Start = search in
-    two-refused ofFrechetLogm (call s) _ (ask .ask-frechet-logm .ensures) (s .args .clears) _ _ _ _ (frechetLogM binary64 (s .args .rows) (now (s .args .a)) (now (s .args .e))) _ (why .why .given .1) (refused .refused .ensures)
+    let a = s .args in
+    let no = refused .refused in
+    let O = two-refused ofFrechetLogm (call s) _ (ask .ask-frechet-logm .ensures) (a .clears) (no .result .outcome) (now (a .first)) (now (a .second)) (now (a .w)) (frechetLogM binary64 (a .rows) (now (a .a)) (now (a .e))) _ (why .why .given .1) (no .ensures .0) in
+    (O, report-refused _ (frechetLogReport binary64 (a .rows) (now (a .a)) (now (a .e))) (no .result .report) (no .result .outcome) (why .why .given .0 .0) (O .outcome) (no .ensures .0) (no .ensures .1))
+
+-- the question and the start, which are too far from the end for one search
+abbrev begun : tie.After-enum-told → tie.After-ask-frechet-logm × tie.Start
+begun told = search
 
 returns-2 : tie.Need-returns-2
 unfolding frechetLogm
 returns-2 c =
-    let (delivered, run, copied2, copied, told, ask, s) :
-    tie.After-deliver-both × tie.After-frechet-logm-in × tie.After-copy-in2 × tie.After-copy-in × tie.After-enum-told × tie.After-ask-frechet-logm
-    × tie.Start = search in
+    let (delivered, run, copied2, copied, told) :
+    tie.After-deliver-both × tie.After-frechet-logm-in × tie.After-copy-in2 × tie.After-copy-in × tie.After-enum-told = search in
+    let (ask, s) = begun told in
     let a = s .args in
     let h = passed told in
     let m = h .0 .shape in
-    two-done ofFrechetLogm (call s) _ (ask .ask-frechet-logm .ensures) (a .clears) _ _ _ _ (0 ∷ 1 ∷ 2 ∷ 3 ∷ 5 ∷ 6 ∷ []) (a .rows) 4 (frechetLogM binary64 (a .rows)) (now (a .a)) (now (a .e)) _ _ _ _ _ _ _
+    let i = run .frechet-logm-in in
+    let d = delivered .deliver-both in
+    let O = two-done ofFrechetLogm (call s) _ (ask .ask-frechet-logm .ensures) (a .clears) (d .result .outcome) (now (a .first)) (now (a .second)) (now (a .w)) (0 ∷ 1 ∷ 2 ∷ 3 ∷ 5 ∷ 6 ∷ []) (a .rows) 4 (frechetLogM binary64 (a .rows)) (now (a .a)) (now (a .e)) _ _ _ _ _ _ _
     (told .enum-told .given .1) (late-frechet-logarithm binary64 (a .rows) (now (a .a)) (now (a .e))) (omega (arith, m .small)) (m .room) (m .long) (h .1 .shape .long) (m .outputs .0) (m .outputs .1 .0) refl (omega arith) refl
-    (copied .copy-in .ensures) (copied2 .copy-in2 .ensures) (run .frechet-logm-in .ensures) (delivered .deliver-both .ensures)
+    (copied .copy-in .ensures) (copied2 .copy-in2 .ensures) (i .ensures .0) (d .ensures .0) in (
+      O,
+      report-delivered-both _ _ (frechetLogReport binary64 (a .rows)) (i .result .report) (d .result .report) (d .result .outcome) (i .result .outcome) (a .rows) 4 (now (a .a)) (now (a .e)) (now (a .w)) _ _
+          (omega (arith, m .small)) (m .room) (m .long) (h .1 .shape .long) refl (omega arith) (copied .copy-in .ensures) (copied2 .copy-in2 .ensures) (O .outcome) (i .ensures .0 .outcome) (d .ensures .0 .outcome) (i .ensures .1) (d .ensures .1),
+    )
 
 pub frechet-logm-with-spec : {M : Type 1} → statement M
 frechet-logm-with-spec =

@@ -8,8 +8,10 @@ use Rattle.arithmetic_questions.specs.Questions.{Call, unary, withoutExponent, 
 use Rattle.arithmetic_matrices.proofs.MatrixLaws.{square-le}
 use Rattle.arithmetic_questions.proofs.QuestionLaws.{Shaped, accepted}
 use Rattle.arithmetic_questions.proofs.OutputLaws.{one-refused, one-done}
+use Rattle.arithmetic_questions.proofs.ReportLaws.{report-refused, report-delivered}
 use Rattle.functions_definitions.specs.Logarithm.{logarithm}
 use Rattle.functions_definitions.specs.Calls.{logm}
+use Rattle.functions_definitions.specs.Reports.{logReport}
 use Rattle.functions_definitions.proofs.LateLaws.{late-logarithm}
 use native.Mathlib.Omega.{arith}
 use borrow.Author.Needs.{needs}
@@ -47,16 +49,26 @@ returns : tie.Need-returns
 unfolding logm
 returns c =
     let (refused, why, ask, s) : tie.After-refused × tie.After-why × tie.After-ask-logm × tie.Start = search in
-    one-refused ofLogm (call s) _ (ask .ask-logm .ensures) (s .args .clears) _ _ _ (logarithm binary64 (s .args .rows) (now (s .args .a))) _ (why .why .given .1) (refused .refused .ensures)
+    let a = s .args in
+    let no = refused .refused in
+    let O = one-refused ofLogm (call s) _ (ask .ask-logm .ensures) (a .clears) (no .result .outcome) (now (a .out)) (now (a .w)) (logarithm binary64 (a .rows) (now (a .a))) _ (why .why .given .1) (no .ensures .0) in
+    (O, report-refused _ (logReport binary64 (a .rows) (now (a .a))) (no .result .report) (no .result .outcome) (why .why .given .0 .0) (O .outcome) (no .ensures .0) (no .ensures .1))
 
 returns-2 : tie.Need-returns-2
 unfolding logm
 returns-2 c =
     let (delivered, run, copied, told, ask, s) :
     tie.After-deliver × tie.After-logm-in × tie.After-copy-in × tie.After-enum-told × tie.After-ask-logm × tie.Start = search in
+    let a = s .args in
     let h = passed told in
-    one-done ofLogm (call s) _ (ask .ask-logm .ensures) (s .args .clears) _ _ _ (0 ∷ 1 ∷ 2 ∷ 3 ∷ []) (s .args .rows) (logarithm binary64 (s .args .rows)) (now (s .args .a)) _ _ _ _ _
-    (told .enum-told .given .1) (late-logarithm binary64 (s .args .rows) (now (s .args .a))) (omega (arith, h .small)) (h .room) (h .long) (h .outputs .0) refl (copied .copy-in .ensures) (run .logm-in .ensures) (delivered .deliver .ensures)
+    let i = run .logm-in in
+    let d = delivered .deliver in
+    let O = one-done ofLogm (call s) _ (ask .ask-logm .ensures) (a .clears) (d .result .outcome) (now (a .out)) (now (a .w)) (0 ∷ 1 ∷ 2 ∷ 3 ∷ []) (a .rows) (logarithm binary64 (a .rows)) (now (a .a)) _ _ _ _ _
+    (told .enum-told .given .1) (late-logarithm binary64 (a .rows) (now (a .a))) (omega (arith, h .small)) (h .room) (h .long) (h .outputs .0) refl (copied .copy-in .ensures) (i .ensures .0) (d .ensures .0) in (
+      O,
+      report-delivered _ _ (logReport binary64 (a .rows)) (i .result .report) (d .result .report) (d .result .outcome) (i .result .outcome) (a .rows) (now (a .a)) (now (a .w)) _
+          (omega (arith, square-le (a .rows) (omega (arith, h .small)), h .room)) (h .long) (copied .copy-in .ensures) (O .outcome) (i .ensures .0 .outcome) (d .ensures .0 .outcome) (i .ensures .1) (d .ensures .1),
+    )
 
 pub logm-with-spec : {M : Type 1} → statement M
 logm-with-spec =

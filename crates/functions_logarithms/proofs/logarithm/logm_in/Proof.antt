@@ -1,6 +1,10 @@
 -- `logm_in` meets its contract: a law for each end of the roots. Assumes nothing.
-use mathlib.Core.Path.{ap}
+use mathlib.Core.Path.{ap, _∙_}
 use lib.Ieee.{binary64}
+use Rattle.arithmetic_matrices.specs.Workspace.{slot}
+use Rattle.arithmetic_questions.specs.declared.answer.Refusal.the-variants.{NotConverged}
+use Rattle.arithmetic_questions.proofs.ReportLaws.{report-done, report-refused}
+use Rattle.functions_definitions.specs.Reports.{logReport}
 use Rattle.functions_logarithms.specs.Kernels.{countOf}
 use Rattle.functions_logarithms.proofs.LogarithmLaws.{logarithm-done, logarithm-refused}
 use native.Mathlib.Omega.{arith}
@@ -19,13 +23,16 @@ returns : tie.Need-returns
 returns c =
     let (near-logarithm, roots, take-roots, s) : tie.After-near-logarithm × tie.After-roots × tie.After-take-roots × tie.Start = search in
     let t = take-roots .take-roots in
-    logarithm-done binary64 (s .args .n) (s .args .w .now) (s .pre) (t .last .0) (t .result) (t .ensures) (roots .roots .given .0 .0) (near-logarithm .near-logarithm .last .0) (roots .roots .given .1) (near-logarithm .near-logarithm .ensures)
+    let R = logarithm-done binary64 (s .args .n) (s .args .w .now) (s .pre) (t .last .0) (t .result) (t .ensures) (roots .roots .given .0 .0) (near-logarithm .near-logarithm .last .0) (roots .roots .given .1) (near-logarithm .near-logarithm .ensures) in
+    (R, t .ensures .reports _ (roots .roots .given .1) ∙ report-done _ _ 0 (R .outcome))
 
 returns-2 : tie.Need-returns-2
 returns-2 c =
-    let (told, take-roots, s) : tie.After-enum-told × tie.After-take-roots × tie.Start = search in
+    let (refused, told, take-roots, s) : tie.After-refused × tie.After-enum-told × tie.After-take-roots × tie.Start = search in
     let t = take-roots .take-roots in
-    logarithm-refused binary64 (s .args .n) (s .args .w .now) (s .pre) (t .last .0) (t .result) (t .ensures) (told .enum-told .given .1)
+    let no = refused .refused in
+    let R = logarithm-refused binary64 (s .args .n) (s .args .w .now) (s .pre) (t .last .0) (t .result) (t .ensures) (no .result .outcome) (told .enum-told .given .1) (no .ensures .0) in
+    (R, report-refused _ (logReport binary64 (s .args .n) (slot (s .args .n) (s .args .w .now) 0)) (no .result .report) (no .result .outcome) NotConverged (R .outcome) (no .ensures .0) (no .ensures .1))
 
 pub logm-in-spec : {M : Type 1} → statement M
 logm-in-spec =
@@ -35,6 +42,7 @@ logm-in-spec =
     (λ c. search needs)
     near-logarithm-requires
     (λ c. search needs)
+    (λ c κs. search needs)
     (λ c. search needs)
     returns
     (λ c. search needs)

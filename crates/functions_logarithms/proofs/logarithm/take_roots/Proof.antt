@@ -8,15 +8,15 @@ use Rattle.functions_logarithms.proofs.logarithm.take_roots.Statement.{
 use Rattle.functions_logarithms.proofs.logarithm.take_roots.Tie as tie
 
 abbrev Inv-loop : tie.InvT-loop
-Inv-loop w₀ n k₀ w k = Rooting binary64 n w₀ w k
+Inv-loop w₀ n report₀ k₀ w report k = Rooting binary64 n w₀ w report k
 
 abbrev μ-loop : tie.MeasureT-loop
-μ-loop w₀ n k₀ w k = 100 - k
+μ-loop w₀ n report₀ k₀ w report k = 100 - k
 
 pub take-roots-spec : {M : Type 1} → statement M
 take-roots-spec =
     tie.close
-    (tie.spec Inv-loop μ-loop (λ c. rooting-start) (λ c κs. search room-kept) (λ c. search needs) (λ c. search needs)
-    (λ c. search needs) (λ c. search rooting-stops) (λ c. search needs) (λ c. search needs)
-    (λ c. search rooting-fails) (λ c. search needs) (λ c. search needs) (λ c. search rooting-more) (λ c. search needs)
-    (λ c. search rooting-out))
+    (tie.spec Inv-loop μ-loop (λ c κs. search needs) (λ c. search rooting-start) (λ c κs. search room-kept) (λ c κs. search needs)
+    (λ c. search needs) (λ c. search needs) (λ c. search needs) (λ c. search rooting-stops) (λ c. search needs)
+    (λ c. search needs) (λ c. search rooting-fails) (λ c. search needs) (λ c. search needs) (λ c. search rooting-more)
+    (λ c. search needs) (λ c. search rooting-out))

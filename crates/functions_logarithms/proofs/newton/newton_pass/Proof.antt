@@ -7,18 +7,20 @@ use Rattle.functions_logarithms.proofs.newton.newton_pass.Tie as tie
 
 returns : tie.Need-returns
 returns c =
-    let (newton-mean, told, divide-slot, copy2, copy, s) :
-    tie.After-newton-mean × tie.After-enum-told × tie.After-divide-slot × tie.After-copy2 × tie.After-copy × tie.Start = search in
+    let (factored, newton-mean, told, divide-slot, copy2, copy, s) :
+    tie.After-factored × tie.After-newton-mean × tie.After-enum-told × tie.After-divide-slot × tie.After-copy2 × tie.After-copy × tie.Start = search in
     let d = divide-slot .divide-slot in
-    newton-passed binary64 (s .args .n) (s .args .w .now) (s .pre) (copy .copy .last .0) (copy2 .copy2 .last .0) (d .last .0) (d .result) (copy .copy .ensures) (copy2 .copy2 .ensures) (d .ensures)
-    (newton-mean .newton-mean .last .0) (newton-mean .newton-mean .result) (told .enum-told .given .1) (newton-mean .newton-mean .ensures)
+    let rest = newton-mean .newton-mean in
+    newton-passed binary64 (s .args .n) (s .args .w .now) (s .pre) (copy .copy .last .0) (copy2 .copy2 .last .0) (d .last .0) (d .result .outcome) (copy .copy .ensures) (copy2 .copy2 .ensures) (d .ensures .0)
+    (rest .last .0) (rest .result) (d .result .smallest) (factored .factored .result) (told .enum-told .given .1) (rest .ensures) (d .ensures .1) (factored .factored .ensures)
 
 returns-2 : tie.Need-returns-2
 returns-2 c =
-    let (told2, divide-slot, copy2, copy, s) : tie.After-enum-told2 × tie.After-divide-slot × tie.After-copy2 × tie.After-copy × tie.Start = search in
+    let (nothing, told2, divide-slot, copy2, copy, s) :
+    tie.After-nothing × tie.After-enum-told2 × tie.After-divide-slot × tie.After-copy2 × tie.After-copy × tie.Start = search in
     let d = divide-slot .divide-slot in
-    newton-failed binary64 (s .args .n) (s .args .w .now) (s .pre) (copy .copy .last .0) (copy2 .copy2 .last .0) (d .last .0) (d .result) (copy .copy .ensures) (copy2 .copy2 .ensures) (d .ensures)
-    (told2 .enum-told2 .given .0 .0) (told2 .enum-told2 .given .1)
+    newton-failed binary64 (s .args .n) (s .args .w .now) (s .pre) (copy .copy .last .0) (copy2 .copy2 .last .0) (d .last .0) (d .result .outcome) (copy .copy .ensures) (copy2 .copy2 .ensures) (d .ensures .0)
+    (told2 .enum-told2 .given .0 .0) (nothing .nothing .result) (told2 .enum-told2 .given .1)
 
 pub newton-pass-spec : {M : Type 1} → statement M
 newton-pass-spec =
@@ -29,7 +31,9 @@ newton-pass-spec =
     (λ c κs. search needs)
     (λ c. search needs)
     (λ c κs. search needs)
+    (λ c κs. search needs)
     (λ c. search needs)
+    (λ c κs. search needs)
     (λ c. search needs)
     returns
     (λ c. search needs)

@@ -16,20 +16,22 @@ returns c =
 
 returns-2 : tie.Need-returns-2
 returns-2 c =
-    let (left2, answers, newton-root, taken1, is-far, s) :
-    tie.Else2 × tie.After-answers × tie.After-newton-root × tie.Then1 × tie.After-is-far × tie.Start = search in
+    let (nothing, left2, answers, newton-root, taken1, is-far, s) :
+    tie.After-nothing × tie.Else2 × tie.After-answers × tie.After-newton-root × tie.Then1 × tie.After-is-far × tie.Start = search in
     let p = newton-root .newton-root in
-    far-failed binary32 (s .args .n) (s .args .w .now) (s .pre) (p .last .0) (p .result) (sym (is-far .is-far .ensures) ∙ taken1 .if1 .taken) (p .ensures) (sym (answers .answers .ensures) ∙ left2 .if2 .left)
+    far-failed binary32 (s .args .n) (s .args .w .now) (s .pre) (p .last .0) (p .result) (sym (is-far .is-far .ensures) ∙ taken1 .if1 .taken) (p .ensures) (nothing .nothing .result) (sym (answers .answers .ensures) ∙ left2 .if2 .left)
 
 returns-3 : tie.Need-returns-3
 returns-3 c =
-    let (left1, is-far, s) : tie.Else1 × tie.After-is-far × tie.Start = search in
-    near-stopped binary32 (s .args .n) (s .args .w .now) (s .pre) (sym (is-far .is-far .ensures) ∙ left1 .if1 .left)
+    let (nothing2, left1, is-far, s) : tie.After-nothing2 × tie.Else1 × tie.After-is-far × tie.Start = search in
+    near-stopped binary32 (s .args .n) (s .args .w .now) (s .pre) (nothing2 .nothing2 .result) (sym (is-far .is-far .ensures) ∙ left1 .if1 .left) (nothing2 .nothing2 .ensures)
 
 pub rooting-pass-spec : {M : Type 1} → statement M
 rooting-pass-spec =
     tie.close
     (tie.spec
+    (λ c κs. search needs)
+    (λ c κs. search needs)
     (λ c κs. search needs)
     (λ c κs. search needs)
     (λ c κs. search needs)

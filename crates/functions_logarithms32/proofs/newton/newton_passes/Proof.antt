@@ -1,25 +1,26 @@
--- `newton_passes` meets its contract, by the loop over the passes (`Passing` of PassLaws). The measure is what is left of 100. Assumes nothing.
+-- `newton_passes` meets its contract, by the loop over the passes (`Reporting` of PassLaws). The measure is what is left of 100. Assumes nothing.
 use Prim.Native.Nat.{_-_}
 use lib.Ieee.{binary32}
 use borrow.Author.Needs.{needs}
 use Rattle.arithmetic_matrices.specs.Workspace.{slot}
 use Rattle.arithmetic_matrices.proofs.Slots.{room-kept}
+use Rattle.functions_definitions.specs.Reports.{luReport}
 use Rattle.functions_definitions.specs.Roots.{newtonStep}
-use Rattle.functions_roots.proofs.PassLaws.{Passing, passing-start, passing-more, passing-stops, passing-fails, passing-out}
+use Rattle.functions_roots.proofs.PassLaws.{Reporting, reporting-start, reporting-turn, reporting-stopped, reporting-failed, reporting-end}
 use Rattle.functions_logarithms.proofs.NewtonLaws.{root, used, newton-same}
 use Rattle.functions_logarithms32.proofs.newton.newton_passes.Statement.{statement}
 use Rattle.functions_logarithms32.proofs.newton.newton_passes.Tie as tie
 
 abbrev Inv-loop : tie.InvT-loop
-Inv-loop w₀ n i₀ w i = Passing (λ _. newtonStep binary32 n (slot n w₀ 0)) 100 (root n) used w₀ w i
+Inv-loop w₀ n report₀ i₀ w report i = Reporting (λ _. newtonStep binary32 n (slot n w₀ 0)) (luReport binary32 n) 100 (root n) used w₀ w report i
 
 abbrev μ-loop : tie.MeasureT-loop
-μ-loop w₀ n i₀ w i = 100 - i
+μ-loop w₀ n report₀ i₀ w report i = 100 - i
 
 pub newton-passes-spec : {M : Type 1} → statement M
 newton-passes-spec =
     tie.close
-    (tie.spec Inv-loop μ-loop (λ c. passing-start) (λ c κs. search room-kept) (λ c. search needs) (λ c. search needs)
-    (λ c. search needs) (λ c. search (passing-stops, newton-same)) (λ c. search needs) (λ c. search needs)
-    (λ c. search (passing-fails, newton-same)) (λ c. search needs) (λ c. search needs)
-    (λ c. search (passing-more, newton-same)) (λ c. search needs) (λ c. search passing-out))
+    (tie.spec Inv-loop μ-loop (λ c κs. search needs) (λ c. search reporting-start) (λ c κs. search room-kept) (λ c κs. search needs)
+    (λ c. search needs) (λ c. search needs) (λ c. search needs) (λ c. search (reporting-stopped, newton-same)) (λ c. search needs)
+    (λ c. search needs) (λ c. search (reporting-failed, newton-same)) (λ c. search needs) (λ c. search needs)
+    (λ c. search (reporting-turn, newton-same)) (λ c. search needs) (λ c. search reporting-end))

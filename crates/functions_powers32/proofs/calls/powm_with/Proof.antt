@@ -8,6 +8,8 @@ use Rattle.arithmetic_questions.specs.Questions.{Call, powered, withExponent, a
 use Rattle.arithmetic_matrices.proofs.MatrixLaws.{square-le}
 use Rattle.arithmetic_questions.proofs.QuestionLaws.{Shaped, accepted}
 use Rattle.arithmetic_questions.proofs.OutputLaws.{one-refused, one-done}
+use Rattle.arithmetic_questions.proofs.ReportLaws.{report-refused, report-delivered}
+use Rattle.functions_definitions.specs.Reports.{powerReport}
 use Rattle.functions_definitions.specs.Powers.{powerM}
 use Rattle.functions_definitions.specs.Calls.{powm}
 use Rattle.functions_definitions.proofs.LateLaws.{late-power}
@@ -47,7 +49,9 @@ returns : tie.Need-returns
 unfolding powm
 returns c =
     let (refused, why, ask, s) : tie.After-refused × tie.After-why × tie.After-ask-powm × tie.Start = search in
-    one-refused ofPowm (call s) _ (ask .ask-powm .ensures) (s .args .clears) _ _ _ (powerM binary32 (s .args .rows) (now (s .args .a)) (s .args .p)) _ (why .why .given .1) (refused .refused .ensures)
+    let no = refused .refused in
+    let O = one-refused ofPowm (call s) _ (ask .ask-powm .ensures) (s .args .clears) (no .result .outcome) (now (s .args .out)) (now (s .args .w)) (powerM binary32 (s .args .rows) (now (s .args .a)) (s .args .p)) _ (why .why .given .1) (no .ensures .0) in
+    (O, report-refused _ (powerReport binary32 (s .args .rows) (now (s .args .a)) (s .args .p)) (no .result .report) (no .result .outcome) (why .why .given .0 .0) (O .outcome) (no .ensures .0) (no .ensures .1))
 
 returns-2 : tie.Need-returns-2
 unfolding powm
@@ -55,8 +59,14 @@ returns-2 c =
     let (delivered, run, copied, told, ask, s) :
     tie.After-deliver × tie.After-powm-in × tie.After-copy-in × tie.After-enum-told × tie.After-ask-powm × tie.Start = search in
     let h = passed told in
-    one-done ofPowm (call s) _ (ask .ask-powm .ensures) (s .args .clears) _ _ _ (0 ∷ 1 ∷ 2 ∷ 3 ∷ 4 ∷ 5 ∷ []) (s .args .rows) (λ (x : List Float). powerM binary32 (s .args .rows) x (s .args .p)) (now (s .args .a)) _ _ _ _ _
-    (told .enum-told .given .1) (late-power binary32 (s .args .rows) (now (s .args .a)) (s .args .p)) (omega (arith, h .small)) (h .room) (h .long) (h .outputs .0) refl (copied .copy-in .ensures) (run .powm-in .ensures) (delivered .deliver .ensures)
+    let x = run .powm-in in
+    let d = delivered .deliver in
+    let O = one-done ofPowm (call s) _ (ask .ask-powm .ensures) (s .args .clears) (d .result .outcome) (now (s .args .out)) (now (s .args .w)) (0 ∷ 1 ∷ 2 ∷ 3 ∷ 4 ∷ 5 ∷ []) (s .args .rows) (λ (x : List Float). powerM binary32 (s .args .rows) x (s .args .p)) (now (s .args .a)) (d .last .1 .0) (copied .copy-in .last .0) (x .last .0) (d .last .1 .1 .0) (x .result .outcome)
+    (told .enum-told .given .1) (late-power binary32 (s .args .rows) (now (s .args .a)) (s .args .p)) (omega (arith, h .small)) (h .room) (h .long) (h .outputs .0) refl (copied .copy-in .ensures) (x .ensures .0) (d .ensures .0) in (
+      O,
+      report-delivered _ _ (λ (a : List Float). powerReport binary32 (s .args .rows) a (s .args .p)) (x .result .report) (d .result .report) (d .result .outcome) (x .result .outcome) (s .args .rows) (now (s .args .a)) (now (s .args .w)) (copied .copy-in .last .0) (omega (arith, square-le (s .args .rows) (omega (arith, h .small)), h .room)) (h .long)
+          (copied .copy-in .ensures) (O .outcome) (x .ensures .0 .outcome) (d .ensures .0 .outcome) (x .ensures .1) (d .ensures .1),
+    )
 
 pub powm-with-spec : {M : Type 1} → statement M
 powm-with-spec =

@@ -9,7 +9,9 @@ use Rattle.arithmetic_questions.specs.Questions.{Call, binary, withoutExponent,
 use Rattle.arithmetic_matrices.proofs.MatrixLaws.{square-le}
 use Rattle.arithmetic_questions.proofs.QuestionLaws.{Accepted, AcceptedDirection, accepted-directed}
 use Rattle.arithmetic_questions.proofs.BothLaws.{two-refused, two-done}
+use Rattle.arithmetic_questions.proofs.ReportLaws.{report-refused, report-delivered-both}
 use Rattle.functions_definitions.specs.Derivatives.{frechetSqrtM}
+use Rattle.functions_definitions.specs.Reports.{frechetSqrtReport}
 use Rattle.functions_definitions.specs.Calls.{frechetSqrtm}
 use Rattle.functions_roots.proofs.RootDerivativeLaws.{bothSlots}
 use Rattle.functions_definitions.proofs.LateLaws.{late-frechet-root}
@@ -59,20 +61,32 @@ returns : tie.Need-returns
 unfolding frechetSqrtm
 returns c =
     let (refused, why, ask, s) : tie.After-refused × tie.After-why × tie.After-ask-frechet-sqrtm × tie.Start = search in
-    two-refused ofFrechetSqrtm (call s) _ (ask .ask-frechet-sqrtm .ensures) (s .args .clears) _ _ _ _ (frechetSqrtM binary64 (s .args .rows) (now (s .args .a)) (now (s .args .e))) _ (why .why .given .1) (refused .refused .ensures)
+    let q = refused .refused in
+    let O = two-refused ofFrechetSqrtm (call s) _ (ask .ask-frechet-sqrtm .ensures) (s .args .clears) (q .result .outcome) _ _ _ (frechetSqrtM binary64 (s .args .rows) (now (s .args .a)) (now (s .args .e))) _ (why .why .given .1) (q .ensures .0) in
+    (O, report-refused _ (frechetSqrtReport binary64 (s .args .rows) (now (s .args .a))) (q .result .report) (q .result .outcome) (why .why .given .0 .0) (O .outcome) (q .ensures .0) (q .ensures .1))
+
+-- the question and the start, which are too far from the end for one search
+abbrev begun : tie.After-enum-told → tie.After-ask-frechet-sqrtm × tie.Start
+begun told = search
 
 returns-2 : tie.Need-returns-2
 unfolding frechetSqrtm
 returns-2 c =
-    let (delivered, run, copied2, copied, told, ask, s) :
-    tie.After-deliver-both × tie.After-frechet-sqrtm-in × tie.After-copy-in2 × tie.After-copy-in × tie.After-enum-told × tie.After-ask-frechet-sqrtm
-    × tie.Start = search in
+    let (delivered, run, copied2, copied, told) :
+    tie.After-deliver-both × tie.After-frechet-sqrtm-in × tie.After-copy-in2 × tie.After-copy-in × tie.After-enum-told = search in
+    let (ask, s) = begun told in
     let a = s .args in
     let h = passed told in
     let m = h .0 .shape in
-    two-done ofFrechetSqrtm (call s) _ (ask .ask-frechet-sqrtm .ensures) (a .clears) _ _ _ _ bothSlots (a .rows) 6 (frechetSqrtM binary64 (a .rows)) (now (a .a)) (now (a .e)) _ _ _ _ _ _ _
+    let root = run .frechet-sqrtm-in in
+    let d = delivered .deliver-both in
+    let O = two-done ofFrechetSqrtm (call s) _ (ask .ask-frechet-sqrtm .ensures) (a .clears) (d .result .outcome) _ _ _ bothSlots (a .rows) 6 (frechetSqrtM binary64 (a .rows)) (now (a .a)) (now (a .e)) _ _ _ _ _ _ _
     (told .enum-told .given .1) (late-frechet-root binary64 (a .rows) (now (a .a)) (now (a .e))) (omega (arith, m .small)) (m .room) (m .long) (h .1 .shape .long) (m .outputs .0) (m .outputs .1 .0) refl (omega arith) refl
-    (copied .copy-in .ensures) (copied2 .copy-in2 .ensures) (run .frechet-sqrtm-in .ensures) (delivered .deliver-both .ensures)
+    (copied .copy-in .ensures) (copied2 .copy-in2 .ensures) (root .ensures .0) (d .ensures .0) in (
+      O,
+      report-delivered-both _ _ (λ x _. frechetSqrtReport binary64 (a .rows) x) (root .result .report) (d .result .report) (d .result .outcome) (root .result .outcome) (a .rows) 6 (now (a .a)) (now (a .e)) (now (a .w)) _ _
+          (omega (arith, m .small)) (m .room) (m .long) (h .1 .shape .long) refl (omega arith) (copied .copy-in .ensures) (copied2 .copy-in2 .ensures) (O .outcome) (root .ensures .0 .outcome) (d .ensures .0 .outcome) (root .ensures .1) (d .ensures .1),
+    )
 
 pub frechet-sqrtm-with-spec : {M : Type 1} → statement M
 frechet-sqrtm-with-spec =

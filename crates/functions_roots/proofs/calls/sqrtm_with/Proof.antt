@@ -8,6 +8,8 @@ use Rattle.arithmetic_questions.specs.Questions.{Call, unary, withoutExponent, 
 use Rattle.arithmetic_matrices.proofs.MatrixLaws.{square-le}
 use Rattle.arithmetic_questions.proofs.QuestionLaws.{Shaped, accepted}
 use Rattle.arithmetic_questions.proofs.OutputLaws.{one-refused, one-done}
+use Rattle.arithmetic_questions.proofs.ReportLaws.{report-refused, report-delivered}
+use Rattle.functions_definitions.specs.Reports.{rootReport}
 use Rattle.functions_definitions.specs.Roots.{squareRoot}
 use Rattle.functions_definitions.specs.Calls.{sqrtm}
 use Rattle.functions_definitions.proofs.LateLaws.{late-root}
@@ -47,7 +49,9 @@ returns : tie.Need-returns
 unfolding sqrtm
 returns c =
     let (refused, why, ask, s) : tie.After-refused × tie.After-why × tie.After-ask-sqrtm × tie.Start = search in
-    one-refused ofSqrtm (call s) _ (ask .ask-sqrtm .ensures) (s .args .clears) _ _ _ (squareRoot binary64 (s .args .rows) (now (s .args .a))) _ (why .why .given .1) (refused .refused .ensures)
+    let q = refused .refused in
+    let O = one-refused ofSqrtm (call s) _ (ask .ask-sqrtm .ensures) (s .args .clears) (q .result .outcome) _ _ (squareRoot binary64 (s .args .rows) (now (s .args .a))) _ (why .why .given .1) (q .ensures .0) in
+    (O, report-refused _ (rootReport binary64 (s .args .rows) (now (s .args .a))) (q .result .report) (q .result .outcome) (why .why .given .0 .0) (O .outcome) (q .ensures .0) (q .ensures .1))
 
 returns-2 : tie.Need-returns-2
 unfolding sqrtm
@@ -55,8 +59,14 @@ returns-2 c =
     let (delivered, run, copied, told, ask, s) :
     tie.After-deliver × tie.After-sqrtm-in × tie.After-copy-in × tie.After-enum-told × tie.After-ask-sqrtm × tie.Start = search in
     let h = passed told in
-    one-done ofSqrtm (call s) _ (ask .ask-sqrtm .ensures) (s .args .clears) _ _ _ (0 ∷ 1 ∷ 2 ∷ 3 ∷ 4 ∷ 5 ∷ []) (s .args .rows) (squareRoot binary64 (s .args .rows)) (now (s .args .a)) _ _ _ _ _
-    (told .enum-told .given .1) (late-root binary64 (s .args .rows) (now (s .args .a))) (omega (arith, h .small)) (h .room) (h .long) (h .outputs .0) refl (copied .copy-in .ensures) (run .sqrtm-in .ensures) (delivered .deliver .ensures)
+    let root = run .sqrtm-in in
+    let d = delivered .deliver in
+    let O = one-done ofSqrtm (call s) _ (ask .ask-sqrtm .ensures) (s .args .clears) (d .result .outcome) _ _ (0 ∷ 1 ∷ 2 ∷ 3 ∷ 4 ∷ 5 ∷ []) (s .args .rows) (squareRoot binary64 (s .args .rows)) (now (s .args .a)) _ _ _ _ _
+    (told .enum-told .given .1) (late-root binary64 (s .args .rows) (now (s .args .a))) (omega (arith, h .small)) (h .room) (h .long) (h .outputs .0) refl (copied .copy-in .ensures) (root .ensures .0) (d .ensures .0) in (
+      O,
+      report-delivered _ _ (rootReport binary64 (s .args .rows)) (root .result .report) (d .result .report) (d .result .outcome) (root .result .outcome) (s .args .rows) (now (s .args .a)) (now (s .args .w)) _
+          (omega (arith, square-le (s .args .rows) (omega (arith, h .small)), h .room)) (h .long) (copied .copy-in .ensures) (O .outcome) (root .ensures .0 .outcome) (d .ensures .0 .outcome) (root .ensures .1) (d .ensures .1),
+    )
 
 pub sqrtm-with-spec : {M : Type 1} → statement M
 sqrtm-with-spec =

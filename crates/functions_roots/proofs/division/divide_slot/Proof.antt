@@ -3,6 +3,7 @@ use Prim.Native.Nat.{_*_}
 use mathlib.Core.Path.{sym}
 use lib.Seq.{length-take-le}
 use lib.Ieee.{binary64}
+use Rattle.arithmetic_matrices.specs.Workspace.{slot}
 use Rattle.arithmetic_matrices.proofs.MatrixLaws.{square-le}
 use Rattle.arithmetic_matrices.proofs.Slots.{slots-apart}
 use Rattle.functions_roots.proofs.PassLaws.{quotient-slot}
@@ -11,14 +12,14 @@ use borrow.Author.Needs.{needs}
 use Rattle.functions_roots.proofs.division.divide_slot.Statement.{statement}
 use Rattle.functions_roots.proofs.division.divide_slot.Tie as tie
 
-slice-aggregate-divide : tie.Need-slice-aggregate-divide
-slice-aggregate-divide c =
+slice-aggregate-divide-reporting : tie.Need-slice-aggregate-divide-reporting
+slice-aggregate-divide-reporting c =
     let pivot-room : tie.After-pivot-room = search in
     let s : tie.Start = search in
     sym (length-take-le _ _ (omega (arith, s .pre .0 .order, pivot-room .pivot-room .ensures)))
 
-divide-requires : tie.Need-divide-requires
-divide-requires c κs =
+divide-reporting-requires : tie.Need-divide-reporting-requires
+divide-reporting-requires c κs =
     let pivot-room : tie.After-pivot-room = search in
     let s : tie.Start = search in
     let few = square-le (s .args .n) (s .pre .0 .order) in (
@@ -30,11 +31,12 @@ divide-requires c κs =
     )
 
 returns : tie.Need-returns
+unfolding slot
 returns c =
-    let divide : tie.After-divide = search in
+    let divide : tie.After-divide-reporting = search in
     let s : tie.Start = search in
-    let d = divide .divide in
-    quotient-slot binary64 (s .args .n) (s .args .x) (s .args .w .now) (d .last .0) (d .result) (s .pre .0) (s .pre .1 .0) (s .pre .1 .1) (d .ensures .0) (d .ensures .1)
+    let d = divide .divide-reporting in
+    (quotient-slot binary64 (s .args .n) (s .args .x) (s .args .w .now) (d .last .0) (d .result .outcome) (s .pre .0) (s .pre .1 .0) (s .pre .1 .1) (d .ensures .0 .0) (d .ensures .0 .1), d .ensures .1)
 
 pub divide-slot-spec : {M : Type 1} → statement M
 divide-slot-spec =
@@ -43,7 +45,7 @@ divide-slot-spec =
     (λ c κs. search needs)
     (λ c. search needs)
     (λ c. search needs)
-    slice-aggregate-divide
-    divide-requires
+    slice-aggregate-divide-reporting
+    divide-reporting-requires
     (λ c. search needs)
     returns)

@@ -1,29 +1,47 @@
 -- `frechet_sqrtm_in` meets its contract: a law for each end. Assumes nothing.
+use mathlib.Core.Path.{_∙_}
 use lib.Ieee.{binary64}
-use Rattle.functions_roots.proofs.RootDerivativeLaws.{root-refused-both, derivative-done, derivative-refused}
+use Rattle.arithmetic_matrices.specs.Workspace.{slot}
+use Rattle.arithmetic_questions.specs.declared.answer.Refusal.the-variants.{NotConverged}
+use Rattle.arithmetic_questions.proofs.ReportLaws.{report-done, report-refused}
+use Rattle.functions_definitions.specs.Reports.{frechetSqrtReport}
+use Rattle.functions_roots.proofs.RootDerivativeLaws.{root-refused-both, derivative-done, derivative-refused, derivative-reported}
 use borrow.Author.Needs.{needs}
 use Rattle.functions_roots.proofs.root_derivative.frechet_sqrtm_in.Statement.{statement}
 use Rattle.functions_roots.proofs.root_derivative.frechet_sqrtm_in.Tie as tie
 
 returns : tie.Need-returns
 returns c =
-    let (taken1, derive-root, told, sqrtm-in, s) : tie.Then1 × tie.After-derive-root × tie.After-enum-told × tie.After-sqrtm-in × tie.Start = search in
+    let (beside, taken1, derive-root, told, sqrtm-in, s) :
+    tie.After-beside × tie.Then1 × tie.After-derive-root × tie.After-enum-told × tie.After-sqrtm-in × tie.Start = search in
     let q = sqrtm-in .sqrtm-in in
     let d = derive-root .derive-root in
-    derivative-done binary64 (s .args .n) (s .args .w .now) (s .pre .0) (q .last .0) (q .result) (q .ensures) (told .enum-told .given .0 .0) (d .result) (d .last .0) (told .enum-told .given .1) (d .ensures) (taken1 .if1 .taken)
+    let B = derivative-done binary64 (s .args .n) (s .args .w .now) (s .pre .0) (q .last .0) (q .result .outcome) (q .ensures .0) (told .enum-told .given .0 .0) (d .result .accepted) (d .last .0) (told .enum-told .given .1) (d .ensures .0) (taken1 .if1 .taken) in (
+      B,
+      derivative-reported binary64 (s .args .n) (s .args .w .now) (s .pre .0) (q .last .0) (q .result .outcome) (q .ensures .0) (told .enum-told .given .0 .0) (d .result .accepted) (d .last .0) (told .enum-told .given .1) (d .ensures .0)
+          (q .result .report) (d .result .report) (beside .beside .result) (q .ensures .1) (d .ensures .1 (taken1 .if1 .taken)) (beside .beside .ensures)
+          ∙ report-done _ _ 0 (B .outcome),
+    )
 
 returns-2 : tie.Need-returns-2
 returns-2 c =
-    let (left1, derive-root, told, sqrtm-in, s) : tie.Else1 × tie.After-derive-root × tie.After-enum-told × tie.After-sqrtm-in × tie.Start = search in
+    let (refused, left1, derive-root, told, sqrtm-in, s) :
+    tie.After-refused × tie.Else1 × tie.After-derive-root × tie.After-enum-told × tie.After-sqrtm-in × tie.Start = search in
     let q = sqrtm-in .sqrtm-in in
     let d = derive-root .derive-root in
-    derivative-refused binary64 (s .args .n) (s .args .w .now) (s .pre .0) (q .last .0) (q .result) (q .ensures) (told .enum-told .given .0 .0) (d .result) (d .last .0) (told .enum-told .given .1) (d .ensures) (left1 .if1 .left)
+    let n = refused .refused in
+    let B = derivative-refused binary64 (s .args .n) (s .args .w .now) (s .pre .0) (q .last .0) (q .result .outcome) (q .ensures .0) (told .enum-told .given .0 .0) (d .result .accepted) (d .last .0) (told .enum-told .given .1) (d .ensures .0)
+    (n .result .outcome) (left1 .if1 .left) (n .ensures .0) in
+    (B, report-refused _ (frechetSqrtReport binary64 (s .args .n) (slot (s .args .n) (s .args .w .now) 0)) (n .result .report) (n .result .outcome) NotConverged (B .outcome) (n .ensures .0) (n .ensures .1))
 
 returns-3 : tie.Need-returns-3
 returns-3 c =
-    let (outcome, sqrtm-in, s) : tie.After-outcome × tie.After-sqrtm-in × tie.Start = search in
+    let (refused2, outcome, sqrtm-in, s) : tie.After-refused2 × tie.After-outcome × tie.After-sqrtm-in × tie.Start = search in
     let q = sqrtm-in .sqrtm-in in
-    root-refused-both binary64 (s .args .n) (s .args .w .now) (s .pre .0) (q .last .0) (q .result) (q .ensures) (outcome .outcome .given .0 .0) (outcome .outcome .given .1)
+    let n = refused2 .refused2 in
+    let y = outcome .outcome .given .0 .0 in
+    let B = root-refused-both binary64 (s .args .n) (s .args .w .now) (s .pre .0) (q .last .0) (q .result .outcome) (q .ensures .0) (n .result .outcome) y (outcome .outcome .given .1) (n .ensures .0) in
+    (B, report-refused _ (frechetSqrtReport binary64 (s .args .n) (slot (s .args .n) (s .args .w .now) 0)) (n .result .report) (n .result .outcome) y (B .outcome) (n .ensures .0) (n .ensures .1))
 
 pub frechet-sqrtm-in-spec : {M : Type 1} → statement M
 frechet-sqrtm-in-spec =
@@ -32,7 +50,10 @@ frechet-sqrtm-in-spec =
     (λ c κs. search needs)
     (λ c. search needs)
     (λ c κs. search needs)
+    (λ c κs. search needs)
+    (λ c κs. search needs)
     (λ c. search needs)
+    (λ c κs. search needs)
     (λ c. search needs)
     returns
     (λ c. search needs)

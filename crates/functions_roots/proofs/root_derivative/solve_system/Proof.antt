@@ -5,20 +5,21 @@ use mathlib.Core.Path.{sym}
 use mathlib.Core.Logic.{inr}
 use lib.Seq.{length-take-le}
 use lib.Ieee.{binary64}
+use Rattle.arithmetic_matrices.specs.Workspace.{slot}
 use Rattle.functions_roots.proofs.RootDerivativeLaws.{system-solved}
 use native.Mathlib.Omega.{arith}
 use borrow.Author.Needs.{needs}
 use Rattle.functions_roots.proofs.root_derivative.solve_system.Statement.{statement}
 use Rattle.functions_roots.proofs.root_derivative.solve_system.Tie as tie
 
-slice-aggregate-divide : tie.Need-slice-aggregate-divide
-slice-aggregate-divide c =
+slice-aggregate-divide-reporting : tie.Need-slice-aggregate-divide-reporting
+slice-aggregate-divide-reporting c =
     let pivot-room : tie.After-pivot-room = search in
     let s : tie.Start = search in
     sym (length-take-le _ _ (omega (arith, s .pre .1, pivot-room .pivot-room .ensures)))
 
-divide-requires : tie.Need-divide-requires
-divide-requires c κs =
+divide-reporting-requires : tie.Need-divide-reporting-requires
+divide-reporting-requires c κs =
     let pivot-room : tie.After-pivot-room = search in
     let s : tie.Start = search in
     let n = s .args .n in
@@ -32,11 +33,12 @@ divide-requires c κs =
     )
 
 returns : tie.Need-returns
+unfolding slot
 returns c =
-    let divide : tie.After-divide = search in
+    let divide : tie.After-divide-reporting = search in
     let s : tie.Start = search in
-    let d = divide .divide in
-    system-solved binary64 (s .args .n) (s .args .w .now) (s .pre .1) (s .pre .2) (d .last .0) (d .result) (d .ensures .0) (d .ensures .1)
+    let d = divide .divide-reporting in
+    (system-solved binary64 (s .args .n) (s .args .w .now) (s .pre .1) (s .pre .2) (d .last .0) (d .result .outcome) (d .ensures .0 .0) (d .ensures .0 .1), d .ensures .1)
 
 pub solve-system-spec : {M : Type 1} → statement M
 solve-system-spec =
@@ -45,7 +47,7 @@ solve-system-spec =
     (λ c. search needs)
     (λ c κs. search needs)
     (λ c. search needs)
-    slice-aggregate-divide
-    divide-requires
+    slice-aggregate-divide-reporting
+    divide-reporting-requires
     (λ c. search needs)
     returns)

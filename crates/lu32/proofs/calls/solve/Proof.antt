@@ -1,10 +1,13 @@
 -- `solve` meets its contract. Assumes nothing.
+use mathlib.Core.Path.{sym, _∙_}
 use lib.ListN.{length}
 use lib.Ieee.{binary32}
 use denote.Ref.{now}
 use Rattle.arithmetic_questions.specs.Result.{done}
 use Rattle.arithmetic_questions.specs.Questions.{ofSolve}
+use Rattle.arithmetic_questions.specs.Reports.{nothing}
 use Rattle.arithmetic_questions.proofs.OutputLaws.{output-refused, output-done}
+use Rattle.arithmetic_questions.proofs.ReportLaws.{report-refused, report-done}
 use Rattle.lu_factoring.specs.Solve.{solvedMatrix}
 use Rattle.lu.specs.Calls.{solve, solveCall}
 use Rattle.lu.proofs.LuQuestionLaws.{solve-passed}
@@ -26,8 +29,9 @@ returns c =
     let (refused, why, ask-solve, s) : tie.After-refused × tie.After-why × tie.After-ask-solve × tie.Start = search in
     let a = s .args in
     let asked = ask-solve .ask-solve in
-    output-refused ofSolve (solveCall (a .rows) (a .columns) (now (a .f)) (now (a .pivots)) (a .height) (a .width) (now (a .b)) (length (now (a .out)))) (asked .result) (asked .ensures) (refused .refused .result .outcome) (now (a .out))
-    (done 0 (solvedMatrix binary32 (a .rows) (a .width) (now (a .f)) (now (a .pivots)) (now (a .b)))) _ (why .why .given .1) (refused .refused .ensures)
+    let R = output-refused ofSolve (solveCall (a .rows) (a .columns) (now (a .f)) (now (a .pivots)) (a .height) (a .width) (now (a .b)) (length (now (a .out)))) (asked .result) (asked .ensures) (refused .refused .result .outcome) (now (a .out))
+    (done 0 (solvedMatrix binary32 (a .rows) (a .width) (now (a .f)) (now (a .pivots)) (now (a .b)))) _ (why .why .given .1) (refused .refused .ensures .0) in
+    (R, report-refused _ nothing _ (refused .refused .result .outcome) (why .why .given .0 .0) (R .outcome) (refused .refused .ensures .0) (refused .refused .ensures .1))
 
 returns-2 : tie.Need-returns-2
 unfolding solve
@@ -36,8 +40,9 @@ returns-2 c =
     tie.After-done × tie.After-solve-into × tie.After-enum-told × tie.After-ask-solve × tie.Start = search in
     let a = s .args in
     let asked = ask-solve .ask-solve in
-    output-done ofSolve (solveCall (a .rows) (a .columns) (now (a .f)) (now (a .pivots)) (a .height) (a .width) (now (a .b)) (length (now (a .out)))) (asked .result) (asked .ensures) (at-done .done .result .outcome) (now (a .out))
-    0 (solvedMatrix binary32 (a .rows) (a .width) (now (a .f)) (now (a .pivots)) (now (a .b))) _ (told .enum-told .given .1) (at-done .done .ensures) (solve-into .solve-into .ensures)
+    let R = output-done ofSolve (solveCall (a .rows) (a .columns) (now (a .f)) (now (a .pivots)) (a .height) (a .width) (now (a .b)) (length (now (a .out)))) (asked .result) (asked .ensures) (at-done .done .result .outcome) (now (a .out))
+    0 (solvedMatrix binary32 (a .rows) (a .width) (now (a .f)) (now (a .pivots)) (now (a .b))) _ (told .enum-told .given .1) (at-done .done .ensures .0) (solve-into .solve-into .ensures) in
+    (R, at-done .done .ensures .1 ∙ report-done _ nothing 0 (sym (at-done .done .ensures .0) ∙ R .outcome))
 
 pub solve-spec : {M : Type 1} → statement M
 solve-spec =

@@ -1,11 +1,12 @@
 -- `value_line` meets its contract. Assumes nothing.
 use mathlib.Core.Path.{ap, _∙_}
+use mathlib.Core.List.{[], _++_}
 use denote.Ref.{now}
 use lib.Ieee.{Float, binary64}
 use Prim.Native.Nat.{ℕ}
-use Rattle.sheet.specs.Tasks.{valueFor, exponentFor}
+use Rattle.sheet.specs.Tasks.{valueFor, valueReport, exponentFor, ending}
 use Rattle.sheet.proofs.FewLaws.{few-value, few-reported}
-use Rattle.sheet.proofs.TaskLaws.{carried-one, lined-as}
+use Rattle.sheet.proofs.TaskLaws.{carried-one, carried-ending, lined-as}
 use native.Mathlib.Nat.{mul-le-mul}
 use native.Mathlib.Omega.{arith}
 use borrow.Author.Needs.{needs}
@@ -27,7 +28,7 @@ put-answer-requires c κs =
     record {
       space = b .pre .0 .space;
       number = b .pre .0 .number;
-      few = few-reported x (v .result .outcome) (few-value binary64 (a .n) (now (a .a)) (exponent-for .exponent-for .result) (a .code)) (v .ensures .outcome);
+      few = few-reported x (v .result .outcome) (few-value binary64 (a .n) (now (a .a)) (exponent-for .exponent-for .result) (a .code)) (v .ensures .0 .outcome);
       numbers = omega (arith, mul-le-mul (b .pre .0 .order) (b .pre .0 .order), b .pre .1 .0, v .kept .1 .1 .1 .1 .0);
     }
 
@@ -39,8 +40,13 @@ returns c =
     let v = value .value in
     let p = exponent-for .exponent-for in
     let exponent = p .ensures ∙ ap (λ (q : ℕ). exponentFor binary64 (now (a .s)) (a .code) q) (exponent-at .exponent-at .ensures .0) in
-    let same = ap (λ (y : Float). valueFor binary64 (a .n) (now (a .a)) y (a .code)) exponent in
-    lined-as binary64 (a .task) (carried-one (valueFor binary64 (a .n) (now (a .a)) (p .result) (a .code)) (v .result .outcome) (now (a .x)) (v .last .1 .1 .1 .1 .0) (v .ensures .outcome) (v .ensures .output) ∙ same) (put-answer .put-answer .ensures)
+    let x = valueFor binary64 (a .n) (now (a .a)) (p .result) (a .code) in
+    let x′ = v .last .1 .1 .1 .1 .0 in
+    let o = v .ensures .0 .outcome in
+    let outputs = carried-one x (v .result .outcome) (now (a .x)) x′ o (v .ensures .0 .output) in
+    let numbers = carried-ending x (v .result .outcome) (x′ ++ []) (valueReport binary64 (a .n) (now (a .a)) (p .result) (a .code)) (v .result .report) o (v .ensures .1) outputs in
+    let same = ap (λ (y : Float). ending (valueReport binary64 (a .n) (now (a .a)) y (a .code)) (valueFor binary64 (a .n) (now (a .a)) y (a .code))) exponent in
+    lined-as binary64 (a .task) (numbers ∙ same) (put-answer .put-answer .ensures)
 
 pub value-line-spec : {M : Type 1} → statement M
 value-line-spec =

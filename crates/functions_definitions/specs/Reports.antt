@@ -1,0 +1,94 @@
+-- What each function reports, by a definition beside that of its numbers. A report of a run that is refused is not read (`reportAt`). Definitions only.
+use Prim.Native.Nat.{ℕ, _+_, _*_}
+use mathlib.Core.Bool.{cond}
+use mathlib.Core.List.{List}
+use lib.IntN.{ℤ, pos, negsuc}
+use lib.Dec.{eqb}
+use lib.Ieee.{Float, Format, binary64}
+use Rattle.arithmetic_floats.specs.Float.{halvings, integerOf}
+use Rattle.arithmetic_matrices.specs.Norm.{norm1}
+use Rattle.arithmetic_matrices.specs.Product.{timesM, addMultipleM}
+use Rattle.arithmetic_questions.specs.Result.{Result, exit}
+use Rattle.arithmetic_questions.specs.Reports.{nothing, factored, beside, refusedReport}
+use Rattle.arithmetic_questions.specs.declared.answer.Report.{Report}
+use Rattle.lu_factoring.specs.Pivots.{smallestPivot}
+use Rattle.functions_definitions.specs.Iterate.{gathered}
+use Rattle.functions_definitions.specs.Exponential.{denominator, scaled, block}
+use Rattle.functions_definitions.specs.Roots.{newton, Pair, denmanBeavers, squareRoot, passLimit}
+use Rattle.functions_definitions.specs.Logarithm.{Rooted, isFar, rooting, rootLimit, logarithm}
+use Rattle.functions_definitions.specs.Powers.{isWhole}
+use Rattle.functions_definitions.specs.Derivatives.{logStep, sylvesterMatrix, unitDirection}
+
+-- one factoring, of a
+unfoldable pub luReport : Format → ℕ → List Float → Report
+luReport f n a = factored (smallestPivot f n a)
+
+-- two parts: the first gives x and reports r, the second reports g of what the first gives
+unfoldable pub followed : {A : Type 0} → Result A → Report → (A → Report) → Report
+followed x r g = exit (λ v. beside r (g v)) x refusedReport
+
+-- ---- the exponential: one factoring, of the Padé denominator; where the numerator stands in, none succeeded
+
+-- at s halvings
+unfoldable pub exponentialReport : Format → ℕ → ℕ → List Float → Report
+exponentialReport f n s a = luReport f n (denominator f n (scaled f n s a))
+
+-- expm: at the halvings of the norm
+unfoldable pub expReport : Format → ℕ → List Float → Report
+expReport f n a = exponentialReport f n (halvings (norm1 f n a)) a
+
+-- frechet_expm: that of [A E; 0 A]
+unfoldable pub frechetExpReport : Format → ℕ → List Float → List Float → Report
+frechetExpReport f n a e = expReport f (n + n) (block n a e)
+
+-- cond_expm
+unfoldable pub condExpReport : Format → ℕ → List Float → Report
+condExpReport f n a = frechetExpReport f n a (unitDirection f n)
+
+-- ---- the square root: Denman and Beavers factor z and then y in each pass
+
+unfoldable pub pairReport : Format → ℕ → Pair → Report
+pairReport f n p = beside (luReport f n (p .z)) (luReport f n (p .y))
+
+-- sqrtm: at order 1 nothing is factored
+unfoldable pub rootReport : Format → ℕ → List Float → Report
+rootReport f n a = cond (eqb n 1) nothing (gathered beside nothing (pairReport f n) (denmanBeavers f n a) passLimit)
+
+-- the derivative at the root s: one factoring, of the system's matrix
+unfoldable pub rootDerivativeReport : Format → ℕ → List Float → Report
+rootDerivativeReport f n s = cond (eqb n 1) nothing (luReport f (n * n) (sylvesterMatrix f n s))
+
+-- frechet_sqrtm
+unfoldable pub frechetSqrtReport : Format → ℕ → List Float → Report
+frechetSqrtReport f n a = followed (squareRoot f n a) (rootReport f n a) (rootDerivativeReport f n)
+
+-- ---- the logarithm: Newton factors x in each pass, for each root that is taken
+
+unfoldable pub newtonReport : Format → ℕ → List Float → Report
+newtonReport f n a = gathered beside nothing (luReport f n) (newton f n a) passLimit
+
+-- a pass of the rooting, at the matrix w
+unfoldable pub rootingReport : Format → ℕ → List Float → Report
+rootingReport f n w = cond (isFar f n w) (newtonReport f n w) nothing
+
+-- logm
+unfoldable pub logReport : Format → ℕ → List Float → Report
+logReport f n a = gathered beside nothing (λ (r : Rooted). rootingReport f n (r .work)) (rooting f n a) rootLimit
+
+-- frechet_logm: both logarithms
+unfoldable pub frechetLogReport : Format → ℕ → List Float → List Float → Report
+frechetLogReport f n a e = beside (logReport f n a) (logReport f n (addMultipleM f n (logStep f) e a))
+
+-- ---- powers: a negative whole power inverts a
+
+unfoldable pub wholeReport : Format → ℕ → List Float → ℤ → Report
+wholeReport f n a (pos e) = nothing
+wholeReport f n a (negsuc e) = luReport f n a
+
+-- any other power: the logarithm, and the exponential of p times it
+unfoldable pub fractionalReport : Format → ℕ → List Float → Float → Report
+fractionalReport f n a p = followed (logarithm f n a) (logReport f n a) (λ l. expReport f n (timesM f n p l))
+
+-- powm
+unfoldable pub powerReport : Format → ℕ → List Float → Float → Report
+powerReport f n a p = cond (isWhole p) (wholeReport f n a (integerOf binary64 p)) (fractionalReport f n a p)

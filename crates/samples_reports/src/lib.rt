@@ -1,0 +1,1 @@
+// What the calls report, at numbers. The claims stand in specs/.
