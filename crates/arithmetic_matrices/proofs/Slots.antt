@@ -129,6 +129,10 @@ slot-only n S w w′ s k o h p =
     off true e = absurd (true≢false (sym e))
     off false e = refl
 
+-- a slot that a call does not change
+pub slot-kept : (n : ℕ) {w w′ : List Float} (ss : List ℕ) → Room n w → Only (member ss) w w′ → (s : ℕ) → picks (λ t. not (member ss t)) s 1 ≡ true → slot n w′ s ≡ slot n w s
+slot-kept n {w} {w′} ss r o s p = slot-only n (member ss) w w′ s 1 o (omega (arith, square-le n (r .order))) p
+
 -- ---- squaring
 
 pub squared-none : (f : Format) (n : ℕ) (w : List Float) (a t : ℕ) → Squared f n w a t 0 w

@@ -4,3 +4,4 @@ pub mod AnswerLaws
 pub mod ReportLaws
 pub mod OutputLaws
 pub mod BothLaws
+pub mod ReplacedLaws

@@ -1,6 +1,3 @@
 -- Laws that the proofs of this crate cite.
-pub mod ReciprocalLaws
-pub mod SeriesLaws
-pub mod ReplacedLaws
 pub mod WholeLaws
 pub mod PowerLaws

@@ -30,7 +30,7 @@ use Rattle.arithmetic_questions.specs.Answers.{numbered, reported}
 use Rattle.arithmetic_questions.specs.Kernels.{Replaced}
 use Rattle.arithmetic_questions.specs.Reports.{nothing, factored}
 use Rattle.arithmetic_floats.proofs.Order.{split}
-use Rattle.arithmetic_matrices.proofs.Slots.{only-refl, only-trans, only-more, room-kept}
+use Rattle.arithmetic_matrices.proofs.Slots.{only-refl, only-trans, only-more, room-kept, slot-kept}
 use Rattle.arithmetic_matrices.proofs.States.{State, held, upd, start, held-at, step-identity, step-mult, step-copy, member-among}
 use Rattle.lu_factoring.specs.Lu.{luOutcome}
 use Rattle.lu_factoring.specs.Kernels.{divided}
@@ -41,7 +41,6 @@ use Rattle.functions_definitions.specs.Roots.{orNotConverged}
 use Rattle.functions_definitions.specs.Powers.{bitPower, wholePower, inversePower}
 use Rattle.functions_definitions.specs.Reports.{luReport, wholeReport}
 use Rattle.functions_powers.specs.Kernels.{BitMultiplied, BitsMultiplied, AllMultiplied, BitPowered, isNegative}
-use Rattle.functions_powers.proofs.SeriesLaws.{slot-kept}
 
 -- ---- bits
 

@@ -10,7 +10,7 @@ use Rattle.arithmetic_questions.proofs.ReportLaws.{report-done, report-of, repo
 use Rattle.arithmetic_matrices.proofs.Slots.{only-refl}
 use Rattle.functions_definitions.specs.Powers.{expM}
 use Rattle.functions_definitions.specs.Reports.{expReport}
-use Rattle.functions_powers.proofs.ReplacedLaws.{replaced-by, then-refused, then-replaced}
+use Rattle.arithmetic_questions.proofs.ReplacedLaws.{replaced-by, then-refused, then-replaced}
 use Rattle.functions_powers.proofs.PowerLaws.{multiple-replaced, multiple-reported}
 use borrow.Author.Needs.{needs}
 use Rattle.functions_powers.proofs.power.multiple_exponential.Statement.{statement}

@@ -7,7 +7,7 @@ use Rattle.arithmetic_questions.specs.Result.{Result}
 use Rattle.arithmetic_questions.specs.Kernels.{Replaced}
 use Rattle.arithmetic_questions.specs.Reports.{reportAt}
 use Rattle.arithmetic_matrices.proofs.Slots.{only-refl}
-use Rattle.functions_powers.proofs.ReplacedLaws.{replaced-more}
+use Rattle.arithmetic_questions.proofs.ReplacedLaws.{replaced-more}
 use Rattle.functions_powers.proofs.WholeLaws.{exponent-read}
 use Rattle.functions_powers.proofs.PowerLaws.{whole-told, power-whole, power-fractional, reports-whole, reports-fractional}
 use borrow.Author.Needs.{needs}

@@ -8,7 +8,7 @@ use Rattle.functions_definitions.specs.Powers.{fractionalPower, multipleExponen
 use Rattle.functions_definitions.specs.Reports.{fractionalReport}
 use Rattle.arithmetic_questions.proofs.ReportLaws.{report-refused}
 use Rattle.functions_powers.proofs.PowerLaws.{fractional-reported}
-use Rattle.functions_powers.proofs.ReplacedLaws.{then-refused, then-replaced}
+use Rattle.arithmetic_questions.proofs.ReplacedLaws.{then-refused, then-replaced}
 use borrow.Author.Needs.{needs}
 use Rattle.functions_powers32.proofs.power.fractional_power.Statement.{statement}
 use Rattle.functions_powers32.proofs.power.fractional_power.Tie as tie

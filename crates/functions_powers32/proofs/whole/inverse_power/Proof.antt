@@ -10,7 +10,7 @@ use Rattle.lu_factoring.specs.Solve.{inverse}
 use Rattle.functions_definitions.specs.Roots.{orNotConverged}
 use Rattle.functions_definitions.specs.Powers.{bitPower}
 use Rattle.functions_definitions.specs.Reports.{luReport}
-use Rattle.functions_powers.proofs.ReplacedLaws.{replaced-by, then-refused, then-replaced}
+use Rattle.arithmetic_questions.proofs.ReplacedLaws.{replaced-by, then-refused, then-replaced}
 use borrow.Author.Needs.{needs}
 use Rattle.functions_powers32.proofs.whole.inverse_power.Statement.{statement}
 use Rattle.functions_powers32.proofs.whole.inverse_power.Tie as tie

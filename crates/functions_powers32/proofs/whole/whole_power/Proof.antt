@@ -10,7 +10,7 @@ use Rattle.arithmetic_questions.specs.Reports.{reportAt}
 use Rattle.arithmetic_questions.proofs.ReportLaws.{report-done}
 use Rattle.functions_definitions.specs.Powers.{bitPower, inversePower}
 use Rattle.functions_powers.proofs.WholeLaws.{sign-of, size-read, whole-negative, whole-positive, reports-negative, reports-positive}
-use Rattle.functions_powers.proofs.ReplacedLaws.{replaced-by}
+use Rattle.arithmetic_questions.proofs.ReplacedLaws.{replaced-by}
 use borrow.Author.Needs.{needs}
 use Rattle.functions_powers32.proofs.whole.whole_power.Statement.{statement}
 use Rattle.functions_powers32.proofs.whole.whole_power.Tie as tie
