@@ -19,5 +19,6 @@ pub mod Halves
 pub mod Whole
 pub mod Ends
 pub mod Nans
+pub mod LowBits
 pub mod Constants
 pub mod Widths

@@ -2,40 +2,11 @@
 use mathlib.Core.Path.{_≡_, refl}
 use mathlib.Core.Bool.{true, false, not}
 use Prim.Native.Nat.{ℕ, zero, suc}
-use native.Mathlib.Nat.{zero-mul, zero-add, mul-one, one-mul, mul-pos, zero-lt-suc}
-use native.Mathlib.Omega.{arith}
 use lib.IntN.{ℤ, pos}
 use lib.Dec.{T}
-use lib.Ieee.{Float, nan, inf, fin, Format, isNan, lt, neg, sum, add, sub}
-use lib.Ieee.Fits.{up-pos, down-pos, neg-fits}
+use lib.Ieee.{Float, nan, inf, fin, isNan, lt}
 use lib.Ieee.Scale.{finite}
-use borrow.Author.Tests.{ltb-true, ltb-false}
-use Rattle.arithmetic_floats.specs.Float.{+zero, magnitude}
-use Rattle.arithmetic_floats.proofs.Zero.{Fits, zero-exp, round-fit, round-zero, plus-of-positive, add-zero-right}
-
--- ---- magnitude, by the sign's test
-
--- below zero it is the difference from +0
-pub negative : (f : Format) (x : Float) → Fits f x → lt x +zero ≡ true → sub f +zero x ≡ magnitude x
-unfolding lt sub add neg sum magnitude
-negative f nan fit h = cc
-negative f (inf true) fit h = refl
-negative f (inf false) fit h = cc
-negative f (fin true zero e) fit h = absurd (omega (arith, ltb-true))
-negative f (fin true (suc m) e) fit h =
-    round-fit f false (suc m) e _ _ (mul-pos (zero-lt-suc 0) (down-pos e)) (neg-fits f (fin true (suc m) e) fit) (simp (zero-mul, zero-add, one-mul, mul-one))
-negative f (fin false m e) fit h = absurd (omega (arith, ltb-true))
-
--- otherwise the sum with +0, which has no sign where both are zeros
-pub not-negative : (f : Format) (x : Float) → Fits f x → lt x +zero ≡ false → add f x +zero ≡ magnitude x
-unfolding lt add sum magnitude
-not-negative f nan fit h = refl
-not-negative f (inf true) fit h = cc
-not-negative f (inf false) fit h = refl
-not-negative f (fin true zero e) fit h = rw (zero-exp f true e fit) (round-zero f false 1 (zero-lt-suc 0))
-not-negative f (fin false zero e) fit h = rw (zero-exp f false e fit) (round-zero f false 1 (zero-lt-suc 0))
-not-negative f (fin true (suc m) e) fit h = absurd (omega (arith, ltb-false, up-pos e))
-not-negative f (fin false (suc m) e) fit h = add-zero-right f (fin false (suc m) e) +zero fit (plus-of-positive (suc m) e) (false, refl)
+use Rattle.arithmetic_floats.specs.Float.{magnitude}
 
 -- ---- finite: between the infinities
 

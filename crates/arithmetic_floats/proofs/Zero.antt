@@ -118,7 +118,7 @@ value-unique f x y s a c C p q v w =
     sym (ofBits-toBits f x p) ∙ ap (ofBits f) (units-of f x s a c C v ∙ sym (units-of f y s a c C w)) ∙ ofBits-toBits f y q
 
 -- ---- rounding what the format holds
-pub round-fit : (f : Format) (s : Bool) (m : ℕ) (e : ℤ) (a c : ℕ) → 0 < c → Fits f (fin s m e) → m * up e * c ≡ a * down e → round f s a c ≡ fin s m e
+round-fit : (f : Format) (s : Bool) (m : ℕ) (e : ℤ) (a c : ℕ) → 0 < c → Fits f (fin s m e) → m * up e * c ≡ a * down e → round f s a c ≡ fin s m e
 round-fit f s m e a c C t h =
     let n = fits-parts f s m e t in
     let j = shift-of f e (n .fine) in
@@ -134,7 +134,7 @@ round-fit f s m e a c C t h =
     (mul-right-comm a (2 ^ low f) (down e) ∙ ap (λ (x : ℕ). x * 2 ^ low f) (sym h) ∙ mul-right-comm (m * up e) c (2 ^ low f) ∙ ap (λ (x : ℕ). x * c) uv ∙ mul-right-comm u (down e) c) in
     value-unique f (round f s a c) (fin s m e) s a c C (round-fits f s a c) t (round-exact f s a c m (j .0) C (n .few) small exact) (refl, h)
 
-pub round-zero : (f : Format) (s : Bool) (c : ℕ) → 0 < c → round f s 0 c ≡ zeroOf s
+round-zero : (f : Format) (s : Bool) (c : ℕ) → 0 < c → round f s 0 c ≡ zeroOf s
 round-zero f s c C = round-fit f s 0 (pos 0) 0 c C (zero-fits f s) (zero-mul c)
 
 -- ---- a sum with a zero

@@ -1,10 +1,11 @@
 -- Floats one by one: constants, magnitude, halvings, powers of two, rounding to a whole number. Definitions only.
 -- There is one NaN here: of a NaN neither the sign nor the payload is decided. Where a contract names a NaN it says that a NaN stands in that place, and no more.
 -- Letters: f is a format; a float is its sign s, its significand m and its exponent e; k counts halvings or is a power's exponent.
-use Prim.Native.Nat.{ℕ, zero, suc, _+_, _-_, _*_, _/_, _^_, _≤_, _<_}
-use mathlib.Core.Bool.{Bool, false, cond}
+use Prim.Native.Nat.{ℕ, zero, suc, _+_, _-_, _*_, _/_, _%_, _^_, _≤_, _<_}
+use mathlib.Core.Path.{_≡_}
+use mathlib.Core.Bool.{Bool, false, not, cond}
 use lib.IntN.{ℤ, pos, negsuc}
-use lib.Ieee.{Float, nan, inf, fin, Format, binary32, binary64, prec, up, down, minus, size, round, sub, lt, toSigned}
+use lib.Ieee.{Float, nan, inf, fin, Format, binary32, binary64, prec, up, down, minus, size, round, sub, lt, toSigned, isNan, toBits}
 use lib.Ieee.Positive.{num, den}
 use lib.Ieee.Scale.{finite}
 use lib.Dec.{T}
@@ -44,6 +45,20 @@ magnitude nan = nan
 magnitude (inf s) = inf false
 magnitude (fin s zero e) = fin false zero (pos zero)
 magnitude (fin s (suc m) e) = fin false (suc m) e
+
+-- how many bits a number has
+abbrev pub width : Format → ℕ
+width binary32 = 32
+width binary64 = 64
+
+-- the bits of x but for the highest, which is the sign
+abbrev pub lowBits : Format → Float → ℕ
+lowBits f x = toBits f x % 2 ^ (width f - 1)
+
+-- r has the low bits of x, where x is a number, and is NaN where x is
+pub record LowBits (f : Format) (x r : Float) : Type 0 where
+  pub number : T (not (isNan x)) → toBits f r ≡ lowBits f x
+  pub none : x ≡ nan → r ≡ nan
 
 -- b where a < b, and a otherwise
 unfoldable pub larger : Float → Float → Float

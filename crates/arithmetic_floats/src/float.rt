@@ -7,13 +7,19 @@ ghost use lib.IntN.{pos};
 ghost use lib.Ieee.{binary64, ofInt, ofBits, toBits, toSigned};
 ghost use lib.Ieee.Scale.{finite};
 ghost use lib.Ieee.Positive.{num, den};
-ghost use Rattle.arithmetic_floats.specs.Float.{halvings, Least, powerOfTwo, inversePowerOfTwo, halfUp, roundAway, nearInteger, integerOf, magnitude as magnitudeOf, larger as largerOf, smaller as smallerOf};
+ghost use Rattle.arithmetic_floats.specs.Float.{halvings, Least, powerOfTwo, inversePowerOfTwo, halfUp, roundAway, nearInteger, integerOf, LowBits, magnitude as magnitudeOf, larger as largerOf, smaller as smallerOf};
 
-// The magnitude of x. That of -0 is +0, and that of a NaN is a NaN.
+// The magnitude of x: its bits without the sign's, by arithmetic. That of -0 is +0, and that of a NaN is a NaN. `to_bits` has no value at a NaN, so x is
+// asked for that first; its sign is not asked for.
 pub fn magnitude(x: f64) -> f64
     ensures { λ r. ⌜ r ≡ magnitudeOf x ⌝ }
+    ensures { λ r. ⌜ LowBits binary64 x r ⌝ }
 {
-    if x < 0.0 { 0.0 - x } else { x + 0.0 }
+    if x != x {
+        x
+    } else {
+        f64::from_bits(f64::to_bits(x) % 0x8000_0000_0000_0000)
+    }
 }
 
 // b where a < b, and a otherwise.

@@ -7,14 +7,20 @@ ghost use lib.IntN.{pos};
 ghost use lib.Ieee.{binary32, binary64, ofInt, ofBits, toBits};
 ghost use lib.Ieee.Scale.{finite};
 ghost use lib.Ieee.Positive.{num, den};
-ghost use Rattle.arithmetic_floats.specs.Float.{halvings, Least, powerOfTwo, inversePowerOfTwo, nearInteger, integerOf, magnitude as magnitudeOf, larger as largerOf, smaller as smallerOf};
+ghost use Rattle.arithmetic_floats.specs.Float.{halvings, Least, powerOfTwo, inversePowerOfTwo, nearInteger, integerOf, LowBits, magnitude as magnitudeOf, larger as largerOf, smaller as smallerOf};
 use std::num::f32_to_f64_with_nan;
 
-// The magnitude of x. That of -0 is +0, and that of a NaN is a NaN.
+// The magnitude of x: its bits without the sign's, by arithmetic. That of -0 is +0, and that of a NaN is a NaN. `to_bits` has no value at a NaN, so x is
+// asked for that first; its sign is not asked for.
 pub fn magnitude(x: f32) -> f32
     ensures { λ r. ⌜ r ≡ magnitudeOf x ⌝ }
+    ensures { λ r. ⌜ LowBits binary32 x r ⌝ }
 {
-    if x < 0.0 { 0.0 - x } else { x + 0.0 }
+    if x != x {
+        x
+    } else {
+        f32::from_bits(f32::to_bits(x) % 0x8000_0000)
+    }
 }
 
 // b where a < b, and a otherwise.

@@ -1,4 +1,4 @@
--- Roots, powers of two and the source's constants in binary32, and whole exponents, against Rust: one table, one claim.
+-- Roots, magnitudes, powers of two and the source's constants in binary32, and whole exponents, against Rust: one table, one claim.
 use Prim.Native.Nat.{suc}
 use mathlib.Core.Path.{_≡_, refl}
 use mathlib.Core.Bool.{true}
@@ -13,7 +13,7 @@ use Rattle.functions_definitions.specs.Logarithm.{near}
 use Rattle.functions_definitions.specs.Trigonometric.{oneOver}
 use Rattle.functions_definitions.specs.Derivatives.{logStep, unitDirection}
 use Rattle.samples.specs.Shown.{Line, hold, bits, numbers}
-use Rattle.samples.specs.Floats.{root}
+use Rattle.samples.specs.Floats.{root, magnitudeAndLow}
 use Rattle.samples.specs.Starred.{integer}
 use Rattle.samples.specs.Opened.{all}
 
@@ -38,6 +38,16 @@ table =
     ∷ (0x7fc00000 ∷ [], root binary32 0xbf800000)
     ∷ (0x7fc00000 ∷ [], root binary32 0x80000001)
     ∷ (0x7fc00000 ∷ [], root binary32 0x7fc00000)
+    -- magnitudes: zeros, the smallest values, ones and infinities of both signs, and NaN
+    ∷ (0 ∷ 0 ∷ [], magnitudeAndLow binary32 0)
+    ∷ (0 ∷ 0 ∷ [], magnitudeAndLow binary32 0x80000000)
+    ∷ (1 ∷ 1 ∷ [], magnitudeAndLow binary32 1)
+    ∷ (1 ∷ 1 ∷ [], magnitudeAndLow binary32 0x80000001)
+    ∷ (0x3f800000 ∷ 0x3f800000 ∷ [], magnitudeAndLow binary32 0x3f800000)
+    ∷ (0x3f800000 ∷ 0x3f800000 ∷ [], magnitudeAndLow binary32 0xbf800000)
+    ∷ (0x7f800000 ∷ 0x7f800000 ∷ [], magnitudeAndLow binary32 0x7f800000)
+    ∷ (0x7f800000 ∷ 0x7f800000 ∷ [], magnitudeAndLow binary32 0xff800000)
+    ∷ (0x7fc00000 ∷ 0x7fc00000 ∷ [], magnitudeAndLow binary32 0xffc00001)
     -- the bits of a number: zeros, the subnormal ends, the normal ends, infinities; every NaN has the same
     ∷ (
       0x00000000 ∷ 0x80000000 ∷ 0x00000001 ∷ 0x007fffff ∷ 0x00800000 ∷ 0xff7fffff ∷ 0x7f800000 ∷ 0xff800000 ∷ 0x7fc00000 ∷ 0x7fc00000 ∷ 0x7fc00000 ∷ [],

@@ -1,8 +1,9 @@
 //! Times the port and the source side by side, in one run: `bench` on the same sheets, `bench calls` on the same calls in f32, beside the port's f64
-//! calls. README.md of host/ says what is timed.
+//! calls. `bench magnitudes` times steps of the port. README.md of host/ says what is timed.
 
 mod direct;
 mod inputs;
+mod magnitudes;
 mod source;
 mod timing;
 
@@ -74,8 +75,9 @@ fn main() {
     match words.iter().map(String::as_str).collect::<Vec<&str>>()[..] {
         [] => sheets(samples, least),
         ["calls"] => direct::calls(samples, least),
+        ["magnitudes"] => magnitudes::magnitudes(samples, least),
         _ => {
-            eprintln!("bench [calls]");
+            eprintln!("bench [calls | magnitudes]");
             exit(2)
         }
     }

@@ -15,12 +15,12 @@ fn repeats(least: Duration, run: &mut dyn FnMut()) -> u32 {
     }
 }
 
-/// Nanoseconds of one run: the least of the samples. The samples of the three take turns, so that a busy machine meets all of them.
-pub fn least_times(samples: usize, least: Duration, runs: &mut [&mut dyn FnMut(); 3]) -> [f64; 3] {
+/// Nanoseconds of one run: the least of the samples. The samples of all runs take turns, so that a busy machine meets all of them.
+pub fn least_times<const N: usize>(samples: usize, least: Duration, runs: &mut [&mut dyn FnMut(); N]) -> [f64; N] {
     let counts = runs.each_mut().map(|run| repeats(least, run));
-    let mut times = [f64::INFINITY; 3];
+    let mut times = [f64::INFINITY; N];
     for _ in 0..samples {
-        for k in 0..3 {
+        for k in 0..N {
             let start = Instant::now();
             (0..counts[k]).for_each(|_| runs[k]());
             times[k] = times[k].min(start.elapsed().as_nanos() as f64 / f64::from(counts[k]));

@@ -3,6 +3,7 @@
 
 pub mod check;
 pub mod entries;
+pub mod kernels;
 pub mod lent;
 pub mod make;
 pub mod run;

@@ -15,7 +15,7 @@ use Rattle.arithmetic_floats.proofs.float.halvings_of.Statement.{statem
 use Rattle.arithmetic_floats.proofs.float.halvings_of.Tie as tie
 
 plain : (c : tie.After-magnitude) → Plain (c .magnitude .result)
-plain c = let s : tie.Start = search in let p = plain-magnitude (s .args .norm) (s .pre) in (p .0, p .1, c .magnitude .ensures ∙ p .2)
+plain c = let s : tie.Start = search in let p = plain-magnitude (s .args .norm) (s .pre) in (p .0, p .1, c .magnitude .ensures .0 ∙ p .2)
 
 held : (c : tie.After-magnitude) → T (fits binary64 (c .magnitude .result))
 held c = subst T (sym (c .magnitude .ok)) tt
@@ -53,17 +53,17 @@ both x r e = (e, subst (Least (num x) (den x)) (sym e) (halvings-least x))
 returns : tie.Need-returns
 returns c =
     let (taken1, at-magnitude, s) : tie.Then1 × tie.After-magnitude × tie.Start = search in
-    both (s .args .norm) _ (none-above binary64 (at-magnitude .magnitude .result) (plain at-magnitude) (held at-magnitude) (under taken1) ∙ ap halvings (at-magnitude .magnitude .ensures) ∙ halvings-magnitude (s .args .norm))
+    both (s .args .norm) _ (none-above binary64 (at-magnitude .magnitude .result) (plain at-magnitude) (held at-magnitude) (under taken1) ∙ ap halvings (at-magnitude .magnitude .ensures .0) ∙ halvings-magnitude (s .args .norm))
 
 returns-2 : tie.Need-returns-2
 returns-2 c =
     let (taken2, left1, at-magnitude, s) : tie.Then2 × tie.Else1 × tie.After-magnitude × tie.Start = search in
-    both (s .args .norm) _ (at-power binary64 (at-magnitude .magnitude .result) (plain at-magnitude) (held at-magnitude) (over left1) (taken2 .if2 .taken) ∙ ap halvings (at-magnitude .magnitude .ensures) ∙ halvings-magnitude (s .args .norm))
+    both (s .args .norm) _ (at-power binary64 (at-magnitude .magnitude .result) (plain at-magnitude) (held at-magnitude) (over left1) (taken2 .if2 .taken) ∙ ap halvings (at-magnitude .magnitude .ensures .0) ∙ halvings-magnitude (s .args .norm))
 
 returns-3 : tie.Need-returns-3
 returns-3 c =
     let (left2, left1, at-magnitude, s) : tie.Else2 × tie.Else1 × tie.After-magnitude × tie.Start = search in
-    both (s .args .norm) _ (past-power binary64 (at-magnitude .magnitude .result) (plain at-magnitude) (held at-magnitude) (over left1) (left2 .if2 .left) ∙ ap halvings (at-magnitude .magnitude .ensures) ∙ halvings-magnitude (s .args .norm))
+    both (s .args .norm) _ (past-power binary64 (at-magnitude .magnitude .result) (plain at-magnitude) (held at-magnitude) (over left1) (left2 .if2 .left) ∙ ap halvings (at-magnitude .magnitude .ensures .0) ∙ halvings-magnitude (s .args .norm))
 
 pub halvings-of-spec : {M : Type 1} → statement M
 halvings-of-spec =

@@ -11,7 +11,7 @@ unfolding nearInteger
 returns c =
     let (at-magnitude, round, s) : tie.After-magnitude × tie.After-round × tie.Start = search in
     let p = s .args .p in
-    ap (λ (v : Float). lt v _) (at-magnitude .magnitude .ensures ∙ ap (λ (v : Float). magnitude (sub binary64 p v)) (round .round .ensures))
+    ap (λ (v : Float). lt v _) (at-magnitude .magnitude .ensures .0 ∙ ap (λ (v : Float). magnitude (sub binary64 p v)) (round .round .ensures))
 
 pub is-integer-spec : {M : Type 1} → statement M
 is-integer-spec = tie.close (tie.spec (λ c κs. search needs) (λ c κs. search needs) returns)

@@ -29,7 +29,7 @@ half : (c : tie.After-half-up) →
 half c =
     let at-magnitude : tie.After-magnitude = search in
     let a = at-magnitude .magnitude in
-    c .half-up .ensures .0 ∙ ap halfUp (ofBits-toBits binary64 (a .result) (subst T (sym (a .ok)) tt) ∙ a .ensures)
+    c .half-up .ensures .0 ∙ ap halfUp (ofBits-toBits binary64 (a .result) (subst T (sym (a .ok)) tt) ∙ a .ensures .0)
 
 -- the bits that the test looks at are the magnitude's
 small : (c : tie.Then2) →
@@ -37,12 +37,12 @@ small : (c : tie.Then2) →
     toBits binary64 (magnitude (s .args .x)) < (low binary64 + 1) * hid binary64
 small c =
     let at-magnitude : tie.After-magnitude = search in
-    subst (λ (v : Float). toBits binary64 v < (low binary64 + 1) * hid binary64) (at-magnitude .magnitude .ensures) (c .if2 .taken)
+    subst (λ (v : Float). toBits binary64 v < (low binary64 + 1) * hid binary64) (at-magnitude .magnitude .ensures .0) (c .if2 .taken)
 
 float-to-bits-size : tie.Need-float-to-bits-size
 float-to-bits-size c =
     let (at-magnitude, left1, s) : tie.After-magnitude × tie.Else1 × tie.Start = search in
-    subst (λ (v : Float). T (not (isNan v))) (sym (at-magnitude .magnitude .ensures)) (magnitude-number (s .args .x) (number left1))
+    subst (λ (v : Float). T (not (isNan v))) (sym (at-magnitude .magnitude .ensures .0)) (magnitude-number (s .args .x) (number left1))
 
 int-to-float-whole : tie.Need-int-to-float-whole
 unfolding inFloat
@@ -76,7 +76,7 @@ returns-3 c =
 returns-4 : tie.Need-returns-4
 returns-4 c =
     let (left2, at-magnitude, left1, s) : tie.Else2 × tie.After-magnitude × tie.Else1 × tie.Start = search in
-    round-large binary64 (s .args .x) (held s) (number left1) (subst (λ (v : Float). (low binary64 + 1) * hid binary64 ≤ toBits binary64 v) (at-magnitude .magnitude .ensures) (left2 .if2 .left))
+    round-large binary64 (s .args .x) (held s) (number left1) (subst (λ (v : Float). (low binary64 + 1) * hid binary64 ≤ toBits binary64 v) (at-magnitude .magnitude .ensures .0) (left2 .if2 .left))
 
 pub round-spec : {M : Type 1} → statement M
 round-spec =

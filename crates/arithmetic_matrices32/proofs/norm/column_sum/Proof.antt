@@ -26,7 +26,7 @@ loop-again c =
     tie.After-magnitude Inv-loop μ-loop × tie.In-loop Inv-loop μ-loop × tie.At-loop Inv-loop μ-loop × tie.Start Inv-loop μ-loop = search in
     let inv = head .loop .inv in
     let h = turn .loop-test .taken in
-    (down-turn (inv .0) h, partial-turn (inv .1) h (size .magnitude .ensures ∙ ap (λ (p : ℕ). magnitude (item (s .args .w .now) p)) (inv .0 .place)))
+    (down-turn (inv .0) h, partial-turn (inv .1) h (size .magnitude .ensures .0 ∙ ap (λ (p : ℕ). magnitude (item (s .args .w .now) p)) (inv .0 .place)))
 
 pub column-sum-spec : {M : Type 1} → statement M
 unfolding sumOfMagnitudes

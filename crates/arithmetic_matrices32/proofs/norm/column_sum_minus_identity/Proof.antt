@@ -26,7 +26,7 @@ loop-again c =
     tie.After-magnitude Inv-loop μ-loop × tie.After-minus-identity-entry Inv-loop μ-loop × tie.In-loop Inv-loop μ-loop × tie.At-loop Inv-loop μ-loop = search in
     let inv = head .loop .inv in
     let h = turn .loop-test .taken in
-    (down-turn (inv .0) h, partial-turn (inv .1) h (rw (size .magnitude .ensures, minus .minus-identity-entry .ensures, inv .0 .place)))
+    (down-turn (inv .0) h, partial-turn (inv .1) h (rw (size .magnitude .ensures .0, minus .minus-identity-entry .ensures, inv .0 .place)))
 
 pub column-sum-minus-identity-spec : {M : Type 1} → statement M
 unfolding sumOfMagnitudes

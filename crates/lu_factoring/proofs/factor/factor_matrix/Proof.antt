@@ -17,7 +17,7 @@ returns c =
     let (taken1, magnitude1, entry1, pivot, turn, head, first) :
     tie.Then1 Inv-loop μ-loop × tie.After-magnitude Inv-loop μ-loop × tie.After-entry Inv-loop μ-loop × tie.After-find-pivot Inv-loop μ-loop
     × tie.In-loop Inv-loop μ-loop × tie.At-loop Inv-loop μ-loop × tie.After-tolerance Inv-loop μ-loop = search in
-    columns-refused binary64 _ _ _ _ _ (head .loop .inv) (turn .loop-test .taken) (pivot .find-pivot .ensures .0) (entry1 .entry .ensures) (magnitude1 .magnitude .ensures) (first .tolerance .ensures)
+    columns-refused binary64 _ _ _ _ _ (head .loop .inv) (turn .loop-test .taken) (pivot .find-pivot .ensures .0) (entry1 .entry .ensures) (magnitude1 .magnitude .ensures .0) (first .tolerance .ensures)
     (taken1 .if1 .taken)
 
 loop-again : tie.Need-loop-again Inv-loop μ-loop
@@ -26,7 +26,7 @@ loop-again c =
     tie.After-eliminate Inv-loop μ-loop × tie.After-swap-rows Inv-loop μ-loop × tie.Else1 Inv-loop μ-loop × tie.After-magnitude Inv-loop μ-loop
     × tie.After-entry Inv-loop μ-loop × tie.After-find-pivot Inv-loop μ-loop × tie.In-loop Inv-loop μ-loop × tie.At-loop Inv-loop μ-loop
     × tie.After-tolerance Inv-loop μ-loop = search in
-    columns-passed binary64 _ _ _ _ _ (head .loop .inv) (turn .loop-test .taken) (pivot .find-pivot .ensures .0) (entry1 .entry .ensures) (magnitude1 .magnitude .ensures) (first .tolerance .ensures)
+    columns-passed binary64 _ _ _ _ _ (head .loop .inv) (turn .loop-test .taken) (pivot .find-pivot .ensures .0) (entry1 .entry .ensures) (magnitude1 .magnitude .ensures .0) (first .tolerance .ensures)
     _ _ (left1 .if1 .left) (swap .swap-rows .ensures) (eliminate1 .eliminate .ensures)
 
 pub factor-matrix-spec : {M : Type 1} → statement M

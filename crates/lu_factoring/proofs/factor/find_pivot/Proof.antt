@@ -18,7 +18,7 @@ loop-again c =
     tie.Joined1 Inv-loop μ-loop × tie.After-magnitude2 Inv-loop μ-loop × tie.After-entry2 Inv-loop μ-loop × tie.In-loop Inv-loop μ-loop × tie.At-loop Inv-loop μ-loop = search in
     let s = head .loop .inv in
     let h = turn .loop-test .taken in
-    let e = size .magnitude2 .ensures in
+    let e = size .magnitude2 .ensures .0 in
     let u = entry2 .entry2 .ensures in
     ⊎-elim (λ w. pivot-new s h e u (w .0 .taken) (w .1) (w .2)) (λ w. pivot-kept s h e u (w .0 .left) (w .1) (w .2)) (joined1 .if1 .came)
 

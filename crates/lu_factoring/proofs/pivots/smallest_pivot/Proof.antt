@@ -42,7 +42,7 @@ shared-slice-read-magnitude c = let turn : tie.In-loop Inv-loop μ-loop = search
 loop-again : tie.Need-loop-again Inv-loop μ-loop
 loop-again c =
     let (smaller, size, turn, head) : tie.After-smaller Inv-loop μ-loop × tie.After-magnitude Inv-loop μ-loop × tie.In-loop Inv-loop μ-loop × tie.At-loop Inv-loop μ-loop = search in
-    smallest-turn (head .loop .inv) (turn .loop-test .taken) (size .magnitude .ensures) (smaller .smaller .ensures)
+    smallest-turn (head .loop .inv) (turn .loop-test .taken) (size .magnitude .ensures .0) (smaller .smaller .ensures)
 
 returns : tie.Need-returns Inv-loop μ-loop
 returns c =
