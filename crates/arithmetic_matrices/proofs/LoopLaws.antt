@@ -1,9 +1,9 @@
 -- What the loops of the kernels keep, as records, each with its laws: start, one turn, end. Assumes nothing.
 use Prim.Native.Nat.{ℕ, _+_, _-_, _*_, _<_, _≤_}
-use native.Mathlib.Nat.{zero-add, zero-mul, mul-le-mul-right}
+use native.Mathlib.Nat.{zero-add, zero-mul, add-assoc, mul-le-mul-right}
 use native.Mathlib.Numerals.{add-one}
 use native.Mathlib.Omega.{arith}
-use mathlib.Core.Path.{_≡_, refl, sym, _∙_, ap}
+use mathlib.Core.Path.{_≡_, refl, sym, _∙_, ap, subst}
 use mathlib.Core.List.{List}
 use mathlib.Core.Bool.{false}
 use lib.Dec.{eqb}
@@ -138,6 +138,10 @@ module _ {x n j q i : ℕ} (s : Down x n j q i) (h : i < n) where
   pub down-inside : q < x + n * n
   down-inside = omega (arith, s .place, index-lt h (s .column))
 
+-- the place after q is that of entry (i, j + 1)
+pub down-beside : {x n j q i : ℕ} → Down x n j q i → j + 1 < n → Down x n (j + 1) (q + 1) i
+down-beside s h = record { within = s .within; column = h; place = omega (arith, s .place) }
+
 -- q is the place of entry (i, i): a walk down the diagonal
 pub record Diagonal (x n q i : ℕ) : Type 0 where
   pub within : i ≤ n
@@ -202,6 +206,10 @@ largest-start f {n} {g} = record { within = omega arith; most = largest-none f g
 
 pub largest-turn : {n : ℕ} {g : ℕ → Float} {s v r : Float} {i : ℕ} → Largest n g s i → i < n → v ≡ g i → r ≡ larger s v → Largest n g r (i + 1)
 largest-turn p h e q = record { within = omega arith; most = rw (q, e, p .most, largest-more) }
+
+-- two numbers at a time
+pub largest-two : {n : ℕ} {g : ℕ → Float} {s u v r t : Float} {i : ℕ} → Largest n g s i → i + 1 < n → u ≡ g i → v ≡ g (i + 1) → r ≡ larger s u → t ≡ larger r v → Largest n g t (i + 2)
+largest-two {n} {g} {t = t} {i} p h e d q b = subst (Largest n g t) (add-assoc i 1 1) (largest-turn (largest-turn p (omega arith) e q) h d b)
 
 pub largest-end : {n : ℕ} {g : ℕ → Float} {s : Float} {i : ℕ} → Largest n g s i → n ≤ i → s ≡ largest n g
 largest-end {n} {i = i} p h = let e : i ≡ n = omega arith in rw e at (p .most)

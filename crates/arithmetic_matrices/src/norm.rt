@@ -32,6 +32,24 @@ pub fn column_sum(w: &[f64], x: usize, j: usize, n: usize) -> f64
     sum
 }
 
+// The sums of the magnitudes of columns j and j + 1 of the n by n matrix at x. Their numbers stand side by side, so a processor can take two at once.
+pub fn two_column_sums(w: &[f64], x: usize, j: usize, n: usize) -> Sums
+    requires { ⌜ (n ≤ 16) × (j + 1 < n) × (x + n * n ≤ length (now w)) ⌝ }
+    ensures { λ r. ⌜ (r .first ≡ sumOfMagnitudes binary64 n (λ i. item (now (w .entry)) (x + (i * n + j)))) × (r .second ≡ sumOfMagnitudes binary64 n (λ i. item (now (w .entry)) (x + (i * n + (j + 1))))) ⌝ }
+{
+    let mut first = 0.0;
+    let mut second = 0.0;
+    let mut q = x + j;
+    let mut i = 0;
+    while i < n {
+        first = first + magnitude(w[q]);
+        second = second + magnitude(w[q + 1]);
+        q += n;
+        i += 1;
+    }
+    Sums { first, second }
+}
+
 // The 1-norm of the matrix of order n in slot a.
 pub fn norm_1(w: &[f64], a: usize, n: usize) -> f64
     requires { ⌜ Room n (now w) ⌝ }
@@ -41,11 +59,16 @@ pub fn norm_1(w: &[f64], a: usize, n: usize) -> f64
     let x = 256 * a;
     let mut max = 0.0;
     let mut j = 0;
-    while j < n {
-        max = larger(max, column_sum(w, x, j, n));
-        j += 1;
+    while j + 1 < n {
+        let sums = two_column_sums(w, x, j, n);
+        max = larger(larger(max, sums.first), sums.second);
+        j += 2;
     }
-    max
+    if j < n {
+        larger(max, column_sum(w, x, j, n))
+    } else {
+        max
+    }
 }
 
 // The entry v in row i, column j of a matrix, less the one of the identity.
