@@ -56,7 +56,7 @@ top-low f (fin s zero e) t h =
     (finite-low f s 0 (pos 0) (subst (λ (e : ℤ). Fits f (fin s 0 e)) (zero-exp f s e t) t))
 top-low f (fin s (suc m) e) t h = finite-low f s (suc m) e t
 
--- the law
+-- what the second clause of `magnitude` says, in either width
 pub magnitude-low : (f : Format) (x : Float) → Fits f x → LowBits f x (magnitude x)
 unfolding magnitude
 magnitude-low f x t = record {

@@ -1,8 +1,8 @@
 -- What a call or a part of it reports goes by its outcome. Assumes nothing.
-use Prim.Native.Nat.{ℕ, _*_, _≤_, _<_}
+use Prim.Native.Nat.{ℕ, _+_, _*_, _≤_, _<_}
 use native.Mathlib.Omega.{arith}
 use mathlib.Core.Path.{_≡_, refl, sym, ap, _∙_}
-use mathlib.Core.Bool.{false}
+use mathlib.Core.Bool.{Bool, true, false, _&&_}
 use mathlib.Core.List.{List}
 use lib.Dec.{eqb}
 use lib.ListN.{length}
@@ -86,6 +86,17 @@ pub report-joined : {A B : Type 0} (x : Result A) (y : Result B) (a b ρ₁ ρ�
 report-joined x y a b ρ₁ ρ₂ ρ ρ′ o k h e₁ e₂ e e′ =
     e′ ∙ ap (reportAt (reported o)) (e ∙ (λ i. beside (e₁ i) ((e₂ ∙ sym (report-as y b o k)) i))) ∙ join (reported o) a b ∙ report-as x (beside a b) o h
 
+-- ---- steps
+
+pub same-steps : {r t : Report} → r ≡ t → r .steps ≡ t .steps
+same-steps e = ap (λ (r : Report). r .steps) e
+
+-- a refused part has none, and one that is done those of v
+pub steps-few : {A : Type 0} (x : Result A) (v ρ : Report) (b : ℕ) → ρ ≡ reportAt x v → v .steps ≤ b → ρ .steps ≤ b
+unfolding reportAt exit
+steps-few (refused k i j) v ρ b e h = omega (arith, same-steps e)
+steps-few (done s a) v ρ b e h = omega (arith, same-steps e, h)
+
 -- ---- nothing adds nothing
 
 smaller-none : (a : Float) → smaller a +infinity ≡ a
@@ -94,5 +105,12 @@ smaller-none nan = refl
 smaller-none (inf s) = refl
 smaller-none (fin s m e) = refl
 
+plus-none : (k : ℕ) → k + 0 ≡ k
+plus-none k = omega arith
+
+and-none : (b : Bool) → (b && true) ≡ b
+and-none true = refl
+and-none false = refl
+
 pub beside-nothing : (r : Report) → beside r nothing ≡ r
-beside-nothing r = λ i. record { smallest = smaller-none (r .smallest) i }
+beside-nothing r = λ i. record { smallest = smaller-none (r .smallest) i; steps = plus-none (r .steps) i; settled = and-none (r .settled) i }

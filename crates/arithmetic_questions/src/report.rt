@@ -7,5 +7,9 @@ use crate::answer::Report;
 pub fn factored(smallest: f64) -> Report
     ensures { λ r. ⌜ r ≡ factoredWith smallest ⌝ }
 {
-    Report { smallest }
+    Report {
+        smallest,
+        steps: 0,
+        settled: true,
+    }
 }

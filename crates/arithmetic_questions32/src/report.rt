@@ -10,5 +10,7 @@ pub fn factored(smallest: f32) -> Report
 {
     Report {
         smallest: f32_to_f64_with_nan(smallest),
+        steps: 0,
+        settled: true,
     }
 }

@@ -3,16 +3,17 @@ use Prim.Native.Nat.{ℕ, zero, suc, _+_, _-_, _≤_, _<_}
 use native.Mathlib.Omega.{arith}
 use native.Mathlib.Numerals.{unary-clauses}
 use mathlib.Core.Path.{_≡_, refl, sym, ap, _∙_, subst}
+use mathlib.Core.Bool.{true, false}
 use mathlib.Core.List.{List}
 use lib.Ieee.{Float}
 use Rattle.arithmetic_questions.specs.Result.{Result, refused, done, outcome, exit}
-use Rattle.arithmetic_questions.specs.Reports.{nothing, beside}
+use Rattle.arithmetic_questions.specs.Reports.{nothing, iterated, beside}
 use Rattle.arithmetic_questions.specs.declared.answer.Report.{Report}
 use Rattle.arithmetic_questions.proofs.ReportLaws.{beside-nothing}
-use Rattle.functions_definitions.specs.Iterate.{Step, running, stopped, during, gathered, after}
-use Rattle.functions_definitions.specs.Reports.{followed}
+use Rattle.functions_definitions.specs.Iterate.{Step, running, stopped, failed, advance, after, during, gathered, passes, byTest}
+use Rattle.functions_definitions.specs.Reports.{followed, passesReport, iterationReport}
 use Rattle.functions_definitions.proofs.HalvingLaws.{IsDone}
-use Rattle.functions_definitions.proofs.IterateLaws.{stops}
+use Rattle.functions_definitions.proofs.IterateLaws.{stops, runs-out}
 
 -- for any way to join with a value that adds nothing
 module _ {S R : Type 0} (op : R → R → R) (e : R) (none : (r : R) → op r e ≡ r) (h : S → R) (g : ℕ → S → Step S) (x : S) where
@@ -40,6 +41,44 @@ module _ {S R : Type 0} (op : R → R → R) (e : R) (none : (r : R) → op r e 
       ∙ gathers-no-more (i + 1) d (λ j m. ap (during e h) (stops g x y i r z j (omega (arith, m)) p))
       ∙ gathers i y r
 
+-- ---- how many passes are made, and whether the iteration's own test ended it
+
+-- false of an iteration that is over
+abbrev IsRunning : {S : Type 0} → Step S → Type 0
+IsRunning (running y) = Unit {0}
+IsRunning (stopped y) = ⊥
+IsRunning failed = ⊥
+
+module _ {S : Type 0} (g : ℕ → S → Step S) (x : S) where
+  -- s is the state before pass i, which leaves it running
+  one-made : (i : ℕ) (y : S) (s : Step S) → after g x i ≡ s → advance (g i) s ≡ running y → ((z : S) → after g x i ≡ running z → passes (after g x) i ≡ i) → passes (after g x) (suc i) ≡ suc i
+  unfolding passes gathered advance
+  one-made i y (running z) p q made =
+      let one-more : i + 1 ≡ suc i = omega arith in
+      ap (λ (s : Step S). passes (after g x) i + during 0 (λ _. 1) s) p ∙ ap (λ (k : ℕ). k + 1) (made z p) ∙ one-more
+  one-made i y (stopped z) p q made = absurd (subst IsRunning (sym q) tt)
+  one-made i y failed p q made = absurd (subst IsRunning (sym q) tt)
+
+  -- while it runs, all passes are made
+  all-made : (i : ℕ) (y : S) → after g x i ≡ running y → passes (after g x) i ≡ i
+  unfolding passes gathered after
+  all-made zero y e = refl
+  all-made (suc i) y e = one-made i y (after g x i) refl e (all-made i)
+
+  -- still running after i passes, with the state y
+  module _ (i : ℕ) (y : S) (e : after g x i ≡ running y) where
+    pub counted-stops : (k : ℕ) (z : S) → i < k → g i y ≡ stopped z → iterated (i + 1) true ≡ passesReport (after g x) k
+    unfolding passes
+    counted-stops k z l p =
+        let count = gathers-last _+_ 0 (λ (j : ℕ). omega arith) (λ _. 1) g x i k y z e l p ∙ ap (λ (j : ℕ). j + 1) (all-made i y e) in
+        λ j. iterated (sym count j) (byTest (sym (stops g x y i e z k l p) j))
+
+    pub counted-out : (k : ℕ) → i ≤ k → k ≤ i → iterated i false ≡ passesReport (after g x) k
+    counted-out k h l =
+        let same : i ≡ k = omega arith in
+        let count = sym (all-made i y e) ∙ ap (passes (after g x)) same in
+        λ j. iterated (count j) (byTest (sym (runs-out g x y i e k h l) j))
+
 -- ---- reports
 
 module _ {S : Type 0} (h : S → Report) (g : ℕ → S → Step S) (x : S) where
@@ -64,6 +103,11 @@ module _ {S : Type 0} (h : S → Report) (g : ℕ → S → Step S) (x : S) wher
 
   pub reporting-out : (i k : ℕ) (ρ : Report) → ρ ≡ gives i → i ≤ k → k ≤ i → ρ ≡ gives k
   reporting-out i k ρ J h l = let same : i ≡ k = omega arith in J ∙ ap gives same
+
+  -- ρ is what all passes report, and v says how many there were and how they ended
+  pub iteration-reports : (k : ℕ) (ρ v ρ′ : Report) → ρ ≡ gives k → v ≡ passesReport (after g x) k → ρ′ ≡ beside ρ v → ρ′ ≡ iterationReport h (after g x) k
+  unfolding iterationReport
+  iteration-reports k ρ v ρ′ J C B = B ∙ (λ i. beside (J i) (C i))
 
 -- ---- two parts, the second given what the first gives
 

@@ -4,3 +4,4 @@ pub mod FirstOutput
 pub mod LateLaws
 pub mod IterateLaws
 pub mod GatheredLaws
+pub mod StepLaws

@@ -1,6 +1,6 @@
 -- An iteration that stops early or fails. The state after i passes is a function of i, so that a loop's invariant can name it; one that has stopped
 -- or failed stays as it is. Definitions only.
-use Prim.Native.Nat.{ℕ, zero, suc}
+use Prim.Native.Nat.{ℕ, zero, suc, _+_}
 use mathlib.Core.Bool.{Bool, true, false}
 use Rattle.arithmetic_questions.specs.Result.{Result, refused, done}
 
@@ -35,6 +35,16 @@ during e h failed = e
 unfoldable pub gathered : {S R : Type 0} → (R → R → R) → R → (S → R) → (ℕ → Step S) → ℕ → R
 gathered op e h states zero = e
 gathered op e h states (suc i) = op (gathered op e h states i) (during e h (states i))
+
+-- how many of the first k passes are made, the one that stops included
+unfoldable pub passes : {S : Type 0} → (ℕ → Step S) → ℕ → ℕ
+passes states k = gathered _+_ 0 (λ _. 1) states k
+
+-- the iteration was ended by its own test
+abbrev pub byTest : {S : Type 0} → Step S → Bool
+byTest (running x) = false
+byTest (stopped x) = true
+byTest failed = false
 
 -- running out of passes still answers; a failed LU is refusal 13
 abbrev pub ended : {S : Type 0} → Step S → Result S

@@ -13,8 +13,9 @@ use Rattle.arithmetic_floats.proofs.Constants.{one-bits, epsilon-bits}
 use Rattle.arithmetic_matrices.specs.Product.{meanM, diagonalM}
 use Rattle.arithmetic_matrices.specs.Norm.{normOfDifference, trace}
 use Rattle.arithmetic_matrices.specs.Workspace.{Room, slot, store, member, Only}
-use Rattle.arithmetic_questions.specs.Reports.{factored}
+use Rattle.arithmetic_questions.specs.Reports.{nothing, factored}
 use Rattle.arithmetic_questions.specs.declared.answer.Report.{Report}
+use Rattle.arithmetic_questions.proofs.ReportLaws.{same-steps}
 use Rattle.arithmetic_matrices.proofs.MatrixLaws.{square-le}
 use Rattle.arithmetic_matrices.proofs.Slots.{slot-only, only-trans, only-more}
 use Rattle.arithmetic_matrices.proofs.States.{start, step-mean, step-copy, step-call, step-diagonal, held-at, member-among}
@@ -23,14 +24,13 @@ use Rattle.lu_factoring.specs.declared.LuOutcome.the-variants.{Factored, Singul
 use Rattle.lu_factoring.specs.Pivots.{smallestPivot}
 use Rattle.lu_factoring.specs.Solve.{division, whereFactored}
 use Rattle.functions_definitions.specs.Iterate.{after, verdict}
-use Rattle.functions_definitions.specs.Reports.{luReport, newtonReport}
+use Rattle.functions_definitions.specs.Reports.{luReport, iterationReport, newtonReport}
 use Rattle.functions_definitions.specs.Roots.{rootTolerance, passLimit, newtonNext, newtonStep, newtonScale, newtonStart, newton}
-use Rattle.functions_definitions.proofs.GatheredLaws.{gives}
 use Rattle.functions_roots.specs.Kernels.{asStep, tested, ReportedPass, ReportedPasses, SlotQuotient, NewtonMean}
 use Rattle.functions_roots.specs.declared.pass.Pass.{Pass}
 use Rattle.functions_roots.specs.declared.pass.Passed.{Passed}
 use Rattle.functions_roots.specs.declared.pass.Pass.the-variants.{Failed}
-use Rattle.functions_roots.proofs.PassLaws.{step-tested, silent}
+use Rattle.functions_roots.proofs.PassLaws.{step-tested, failed-reports}
 use Rattle.functions_logarithms.specs.Kernels.{ReportedNewton}
 
 -- the slots that a pass changes, and where x stands
@@ -75,14 +75,14 @@ module _ (f : Format) (n : ℕ) (w₀ : List Float) (r : Room n w₀) where
             step = M .step ∙ (λ i. newtonNext f n (solved .1 i) (q i));
             only = only-trans (solved .3) (only-more (member-among (member used) (1 ∷ 2 ∷ []) refl) (M .only));
           };
-          reports = λ _. e ∙ ap factored (ev ∙ ap (smallestPivot f n) (solved .0));
+          reports = record { few = omega (arith, same-steps e); report = λ _. e ∙ ap factored (ev ∙ ap (smallestPivot f n) (solved .0)) };
         }
 
-    pub newton-failed : (k : ℕ) (ρ : Report) → o ≡ Singular k → ReportedPass (newtonStep f n (slot n w₀ 0)) (luReport f n) (root n) used (record { pass = Failed; report = ρ }) w₀ w3
+    pub newton-failed : (k : ℕ) (ρ : Report) → o ≡ Singular k → ρ ≡ nothing → ReportedPass (newtonStep f n (slot n w₀ 0)) (luReport f n) (root n) used (record { pass = Failed; report = ρ }) w₀ w3
     unfolding newtonStep newtonNext
-    newton-failed k ρ eo =
+    newton-failed k ρ eo e =
         let q : none ≡ division f n (slot n w₀ 1) (slot n w₀ 0) = ap (λ (z : LuOutcome). whereFactored z (slot n w3 3)) (sym eo) ∙ solved .2 in
-        record { passed = record { step = ap (newtonNext f n (slot n w₀ 1)) q; only = solved .3 }; reports = silent refl }
+        record { passed = record { step = ap (newtonNext f n (slot n w₀ 1)) q; only = solved .3 }; reports = failed-reports e }
 
   -- a pass on the way is a step for the matrix with which the passes began
   pub newton-same : (w w′ : List Float) (p : Passed) → Only (member used) w₀ w → ReportedPass (newtonStep f n (slot n w 0)) (luReport f n) (root n) used p w w′
@@ -100,7 +100,10 @@ module _ (f : Format) (n : ℕ) (w₀ : List Float) (r : Room n w₀) where
           step = P .passed .step ∙ (λ i. after (λ _. newtonStep f n (held-at 0 n s1 refl i)) (x i) passLimit);
           only = only-trans (s1 .only) (P .passed .only);
         };
-        reports = λ e. P .reports e ∙ (λ i. gives (luReport f n) (λ _. newtonStep f n (held-at 0 n s1 refl i)) (x i) passLimit);
+        reports = record {
+          few = P .reports .few;
+          report = λ e. P .reports .report e ∙ (λ i. iterationReport (luReport f n) (after (λ _. newtonStep f n (held-at 0 n s1 refl i)) (x i)) passLimit);
+        };
       }
 
 -- ---- the start's scale, by the test that the code makes

@@ -31,6 +31,7 @@ use arithmetic_questions::answer::Outcome;
 use arithmetic_questions::answer::Refusal;
 use arithmetic_questions::answer::Report;
 use arithmetic_questions::answer::beside;
+use arithmetic_questions::answer::iterated;
 use arithmetic_questions::answer::nothing;
 use arithmetic_questions::answer::refused;
 use functions_roots::pass::Pass;
@@ -86,7 +87,7 @@ fn rooting_pass(w: &mut [f64], n: usize) -> Passed
     }
 }
 
-// At most 100 roots.
+// At most 100 roots. Where so many are taken, it is asked for the report alone whether the matrix is near I.
 fn take_roots(w: &mut [f64], n: usize) -> TakenRoots
     requires { ⌜ Room n (now w) ⌝ }
     ensures { λ r. ⌜ RootsTaken binary64 n r (now (w .entry)) (now (w .exit)) ⌝ }
@@ -114,9 +115,10 @@ fn take_roots(w: &mut [f64], n: usize) -> TakenRoots
         }
         k += 1;
     }
+    let near = !is_far(w, n);
     TakenRoots {
         roots: Roots::Taken(k),
-        report,
+        report: beside(report, iterated(0, near)),
     }
 }
 
@@ -155,40 +157,42 @@ fn series_pass(w: &mut [f64], k: usize, n: usize) -> bool
 }
 
 // The terms 2 to 60, or up to the last.
-fn add_terms(w: &mut [f64], n: usize)
+fn add_terms(w: &mut [f64], n: usize) -> Report
     requires { ⌜ Room n (now w) ⌝ }
-    ensures { λ _. ⌜ TermsAdded binary64 n (now (w .entry)) (now (w .exit)) ⌝ }
+    ensures { λ r. ⌜ TermsAdded binary64 n r (now (w .entry)) (now (w .exit)) ⌝ }
 {
     let mut k = 0;
     while k < 59 {
         if series_pass(w, k, n) {
-            return;
+            return iterated(k as u64 + 1, true);
         }
         k += 1;
     }
+    iterated(k as u64, false)
 }
 
 // The sum of the series of log (I + X). The first term is added to +0.
-fn sum_series(w: &mut [f64], n: usize)
+fn sum_series(w: &mut [f64], n: usize) -> Report
     requires { ⌜ Room n (now w) ⌝ }
-    ensures { λ _. ⌜ SeriesSummed binary64 n (now (w .entry)) (now (w .exit)) ⌝ }
+    ensures { λ r. ⌜ SeriesSummed binary64 n r (now (w .entry)) (now (w .exit)) ⌝ }
 {
     copy(w, 0, 1, n);
     zero(w, 2, n);
     add(w, 2, 1, n);
-    add_terms(w, n);
+    add_terms(w, n)
 }
 
-// The logarithm of a matrix near I, times 2^roots, takes its place.
-fn near_logarithm(w: &mut [f64], n: usize, roots: u64)
+// The logarithm of a matrix near I, times 2^roots, takes its place. The report is that of the series.
+fn near_logarithm(w: &mut [f64], n: usize, roots: u64) -> Report
     requires { ⌜ Room n (now w) ⌝ }
     requires { ⌜ roots ≤ 100 ⌝ }
-    ensures { λ _. ⌜ LogarithmNear binary64 n roots (now (w .entry)) (now (w .exit)) ⌝ }
+    ensures { λ r. ⌜ LogarithmNear binary64 n roots r (now (w .entry)) (now (w .exit)) ⌝ }
 {
     minus_identity(w, 0, n);
-    sum_series(w, n);
+    let report = sum_series(w, n);
     scale(w, 2, power_of_two(roots), n);
     copy(w, 2, 0, n);
+    report
 }
 
 // The logarithm of the matrix of order n in slot 0 takes its place. Running out of roots or terms still answers.
@@ -201,11 +205,10 @@ pub fn logm_in(w: &mut [f64], n: usize) -> Answer
     let roots = taken.roots;
     match roots {
         Roots::Taken(k) => {
-            near_logarithm(w, n, k);
-            let report = taken.report;
+            let series = near_logarithm(w, n, k);
             Answer {
                 outcome: Outcome::Done { halvings: 0 },
-                report,
+                report: beside(taken.report, series),
             }
         }
         Roots::Refused => refused(Refusal::NotConverged),

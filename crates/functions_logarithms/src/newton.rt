@@ -15,6 +15,7 @@ use arithmetic_matrices::workspace::copy;
 use arithmetic_matrices::workspace::diagonal;
 use arithmetic_matrices::workspace::mean;
 use arithmetic_questions::answer::beside;
+use arithmetic_questions::answer::iterated;
 use arithmetic_questions::answer::nothing;
 use arithmetic_questions::report::factored;
 use functions_roots::division::divide_slot;
@@ -74,7 +75,7 @@ fn newton_passes(w: &mut [f64], n: usize) -> Passed
             Pass::Stopped => {
                 return Passed {
                     pass: Pass::Stopped,
-                    report,
+                    report: beside(report, iterated(i + 1, true)),
                 };
             }
             Pass::Failed => {
@@ -88,7 +89,7 @@ fn newton_passes(w: &mut [f64], n: usize) -> Passed
     }
     Passed {
         pass: Pass::Running,
-        report,
+        report: beside(report, iterated(i, false)),
     }
 }
 

@@ -13,8 +13,9 @@ use Rattle.arithmetic_floats.proofs.RootBounds.{root-not-below}
 use Rattle.arithmetic_matrices.specs.Matrix.{part, tab, item}
 use Rattle.arithmetic_matrices.specs.Norm.{sumOfSquares, frobenius, normOfDifference}
 use Rattle.arithmetic_questions.specs.Result.{done, refused}
-use Rattle.arithmetic_questions.specs.Reports.{nothing, beside}
+use Rattle.arithmetic_questions.specs.Reports.{nothing, iterated, beside}
 use Rattle.arithmetic_questions.specs.declared.answer.Report.{Report}
+use Rattle.arithmetic_questions.proofs.ReportLaws.{same-steps}
 use Rattle.arithmetic_matrices.specs.Workspace.{Room, slot, member, Only}
 use Rattle.arithmetic_matrices.proofs.ProductLaws.{subM-parts}
 use Rattle.arithmetic_matrices.proofs.Slots.{only-refl, only-trans}
@@ -24,14 +25,15 @@ use Rattle.lu_factoring.specs.Lu.{luOutcome}
 use Rattle.lu_factoring.specs.Kernels.{divided}
 use Rattle.lu_factoring.specs.Solve.{standIn, quotient, division, whereFactored}
 use Rattle.lu_factoring.proofs.DivisionLaws.{divided-slot, divided-only}
-use Rattle.functions_definitions.specs.Roots.{rootTolerance}
-use Rattle.functions_definitions.specs.Iterate.{Step, running, after, verdict, ended}
-use Rattle.functions_roots.specs.Kernels.{asStep, tested, answered, OnePass, Passes, ReportedPass, ReportedPasses, SlotQuotient}
+use Rattle.functions_definitions.specs.Roots.{rootTolerance, passLimit}
+use Rattle.functions_definitions.specs.Reports.{passesReport}
+use Rattle.functions_definitions.specs.Iterate.{Step, running, stopped, after, verdict, ended}
+use Rattle.functions_roots.specs.Kernels.{asStep, tested, answered, OnePass, Passes, Reports, ReportedPass, ReportedPasses, SlotQuotient}
 use Rattle.functions_roots.specs.declared.pass.Pass.{Pass}
 use Rattle.functions_roots.specs.declared.pass.Passed.{Passed}
 use Rattle.functions_roots.specs.declared.pass.Pass.the-variants.{Running, Stopped, Failed}
 use Rattle.functions_definitions.proofs.IterateLaws.{goes-on, stops, fails, runs-out}
-use Rattle.functions_definitions.proofs.GatheredLaws.{gives, reporting-none, reporting-more, reporting-stops, reporting-out}
+use Rattle.functions_definitions.proofs.GatheredLaws.{gives, counted-stops, counted-out, reporting-none, reporting-more, reporting-stops, reporting-out, iteration-reports}
 
 -- a pass that its test ends, as the definitions say it
 pub step-tested : {S : Type 0} (b : Bool) (x : S) → asStep (tested b) x ≡ verdict b x
@@ -86,45 +88,87 @@ module _ {S : Type 0} {g : ℕ → S → Step S} {count : ℕ} {read : List Floa
     pub passing-stops : p ≡ Stopped → Passes g count read ss Stopped w₀ w′
     passing-stops e = record { step = sym (stops g (read w₀) (read w) i (H .state) (read w′) count h (told Stopped e)); only = all }
 
+    -- the pass that stops counts
+    pub passing-counted : p ≡ Stopped → iterated (i + 1) true ≡ passesReport (after g (read w₀)) count
+    passing-counted e = counted-stops g (read w₀) i (read w) (H .state) count (read w′) h (told Stopped e)
+
     passing-fails : p ≡ Failed → Passes g count read ss Failed w₀ w′
     passing-fails e = record { step = sym (fails g (read w₀) (read w) i (H .state) count h (told Failed e)); only = all }
 
   pub passing-out : count ≤ i → Passes g count read ss Running w₀ w
   passing-out l = record { step = sym (runs-out g (read w₀) (read w) i (H .state) count (H .within) l); only = H .only }
 
+  pub passing-counted-out : count ≤ i → iterated i false ≡ passesReport (after g (read w₀)) count
+  passing-counted-out l = counted-out g (read w₀) i (read w) (H .state) count (H .within) l
+
 -- ---- the loop over passes that report
 
 -- a pass that failed says nothing
-pub silent : {A : Type 0} {p : Pass} → p ≡ Failed → answered p ≡ true → A
+silent : {A : Type 0} {p : Pass} → p ≡ Failed → answered p ≡ true → A
 silent e a = absurd (true≢false (sym a ∙ ap answered e))
 
--- i passes are made, the iteration goes on, and ρ is what they report
+pub failed-reports : {b : ℕ} {v ρ : Report} → ρ ≡ nothing → Reports b (record { pass = Failed; report = ρ }) v
+failed-reports e = record { few = omega (arith, same-steps e); report = silent refl }
+
+-- i passes are made, the iteration goes on, and ρ is what they report; their steps are not in it yet
 pub record Reporting {S : Type 0} (g : ℕ → S → Step S) (h : S → Report) (count : ℕ) (read : List Float → S) (ss : List ℕ) (w₀ w : List Float) (ρ : Report) (i : ℕ) : Type 0 where
   pub passing : Passing g count read ss w₀ w i
+  pub few : ρ .steps ≤ 0
   pub report : ρ ≡ gives h g (read w₀) i
 
 pub reporting-start : {S : Type 0} {g : ℕ → S → Step S} {h : S → Report} {count : ℕ} {read : List Float → S} {ss : List ℕ} {w₀ : List Float} {ρ : Report} → ρ ≡ nothing → Reporting g h count read ss w₀ w₀ ρ 0
-reporting-start {g = g} {h = h} {read = read} {w₀ = w₀} e = record { passing = passing-start; report = e ∙ reporting-none h g (read w₀) }
+reporting-start {g = g} {h = h} {read = read} {w₀ = w₀} {ρ = ρ} e = record {
+  passing = passing-start;
+  few = omega (arith, same-steps e);
+  report = e ∙ reporting-none h g (read w₀);
+}
 
 module _ {S : Type 0} {g : ℕ → S → Step S} {h : S → Report} {count : ℕ} {read : List Float → S} {ss : List ℕ} {w₀ w : List Float} {ρ : Report} {i : ℕ} (H : Reporting g h count read ss w₀ w ρ i) where
   module _ {w′ : List Float} {r : Passed} {ρ′ : Report} (l : i < count) (P : ReportedPass (g i) h read ss r w w′) (B : ρ′ ≡ beside ρ (r .report)) where
+    -- none of the passes so far brings steps
+    few-so-far : ρ′ .steps ≤ 0
+    few-so-far = omega (arith, same-steps B, H .few, P .reports .few)
+
     pub reporting-turn : r .pass ≡ Running → Reporting g h count read ss w₀ w′ ρ′ (i + 1)
     reporting-turn e = record {
       passing = passing-more (H .passing) l (P .passed) e;
-      report = reporting-more h g (read w₀) i (read w) (H .passing .state) ρ (r .report) ρ′ (H .report) (P .reports (ap answered e)) B;
+      few = few-so-far;
+      report = reporting-more h g (read w₀) i (read w) (H .passing .state) ρ (r .report) ρ′ (H .report) (P .reports .report (ap answered e)) B;
     }
 
-    pub reporting-stopped : r .pass ≡ Stopped → ReportedPasses g h count read ss (record { pass = Stopped; report = ρ′ }) w₀ w′
-    reporting-stopped e = record {
-      passed = passing-stops (H .passing) l (P .passed) e;
-      reports = λ _. reporting-stops h g (read w₀) i (read w) (H .passing .state) ρ (r .report) ρ′ (H .report) (P .reports (ap answered e)) B count (read w′) l (sym (P .passed .step) ∙ ap (λ (z : Pass). asStep z (read w′)) e);
-    }
+    pub reporting-stopped : {v ρ″ : Report} → v ≡ iterated (i + 1) true → ρ″ ≡ beside ρ′ v → r .pass ≡ Stopped → ReportedPasses g h count read ss (record { pass = Stopped; report = ρ″ }) w₀ w′
+    reporting-stopped {v = v} {ρ″ = ρ″} I B′ e =
+        let last : g i (read w) ≡ stopped (read w′) = sym (P .passed .step) ∙ ap (λ (z : Pass). asStep z (read w′)) e in
+        let all = reporting-stops h g (read w₀) i (read w) (H .passing .state) ρ (r .report) ρ′ (H .report) (P .reports .report (ap answered e)) B count (read w′) l last in
+        record {
+          passed = passing-stops (H .passing) l (P .passed) e;
+          reports = record {
+            few = omega (arith, same-steps B′, few-so-far, same-steps I);
+            report = λ _. iteration-reports h g (read w₀) count ρ′ v ρ″ all (I ∙ passing-counted (H .passing) l (P .passed) e) B′;
+          };
+        }
 
     pub reporting-failed : r .pass ≡ Failed → ReportedPasses g h count read ss (record { pass = Failed; report = ρ′ }) w₀ w′
-    reporting-failed e = record { passed = passing-fails (H .passing) l (P .passed) e; reports = silent refl }
+    reporting-failed e = record { passed = passing-fails (H .passing) l (P .passed) e; reports = record { few = omega (arith, few-so-far); report = silent refl } }
 
-  pub reporting-end : count ≤ i → ReportedPasses g h count read ss (record { pass = Running; report = ρ }) w₀ w
-  reporting-end l = record { passed = passing-out (H .passing) l; reports = λ _. reporting-out h g (read w₀) i count ρ (H .report) (H .passing .within) l }
+  pub reporting-end : {v ρ″ : Report} → v ≡ iterated i false → ρ″ ≡ beside ρ v → count ≤ i → ReportedPasses g h count read ss (record { pass = Running; report = ρ″ }) w₀ w
+  reporting-end {v = v} {ρ″ = ρ″} I B′ l =
+      let all = reporting-out h g (read w₀) i count ρ (H .report) (H .passing .within) l in
+      record {
+        passed = passing-out (H .passing) l;
+        reports = record {
+          few = omega (arith, same-steps B′, H .few, H .passing .within, same-steps I);
+          report = λ _. iteration-reports h g (read w₀) count ρ v ρ″ all (I ∙ passing-counted-out (H .passing) l) B′;
+        };
+      }
+
+-- the sums of steps fit a u64
+module _ {S : Type 0} {g : ℕ → S → Step S} {h : S → Report} {read : List Float → S} {ss : List ℕ} {w₀ w : List Float} {ρ : Report} {i : ℕ} (H : Reporting g h passLimit read ss w₀ w ρ i) where
+  pub turn-fits : {p : Passed} {t : Report} → Reports 0 p t → ρ .steps + p .report .steps < 18446744073709551616
+  turn-fits R = omega (arith, H .few, R .few)
+
+  pub end-fits : {v : Report} {b : Bool} → v ≡ iterated i b → ρ .steps + v .steps < 18446744073709551616
+  end-fits I = omega (arith, same-steps I, H .few, H .passing .within)
 
 -- ---- a system: the matrix in slot 2, the right-hand matrix in slot x
 

@@ -26,9 +26,9 @@ use Rattle.lu_factoring.specs.declared.LuOutcome.{LuOutcome}
 use Rattle.lu_factoring.specs.declared.LuOutcome.the-variants.{Factored, Singular}
 use Rattle.lu_factoring.specs.Pivots.{smallestPivot}
 use Rattle.lu_factoring.specs.Solve.{division, inverse, whereFactored}
-use Rattle.functions_definitions.specs.Iterate.{after, verdict, ended, gathered}
+use Rattle.functions_definitions.specs.Iterate.{after, verdict, ended}
 use Rattle.functions_definitions.specs.Roots.{rootTolerance, passLimit, Pair, denmanBeaversNext, denmanBeaversStep, denmanBeavers, squareRoot}
-use Rattle.functions_definitions.specs.Reports.{luReport, pairReport, rootReport}
+use Rattle.functions_definitions.specs.Reports.{luReport, iterationReport, pairReport, rootReport}
 use Rattle.functions_roots.specs.Kernels.{asStep, tested, answered, OnePass, Passes, SlotQuotient, pairIn, Means, SecondInverse}
 use Rattle.functions_roots.specs.declared.pass.Pass.{Pass}
 use Rattle.functions_roots.specs.declared.pass.Pass.the-variants.{Failed}
@@ -171,6 +171,6 @@ module _ (f : Format) (n : ℕ) (w₀ : List Float) (r : Room n w₀) where
         let x : refused 13 0 0 ≡ squareRoot f n (slot n w₀ 0) = ended-as (refused 13 0 0) (fails-ended p (pairIn n w2) e) in
         record { outcome = eo ∙ ap outcome x; result = ap (λ (z : Result (List Float)). exit (λ v. v) z (slot n w2 0)) x; only = changed }
 
-    pub root-reported : (ρ : Report) → ρ ≡ gathered beside nothing (pairReport f n) (after (λ _. denmanBeaversStep f n) (pairIn n w1)) passLimit → ρ ≡ rootReport f n (slot n w₀ 0)
+    pub root-reported : (ρ : Report) → ρ ≡ iterationReport (pairReport f n) (after (λ _. denmanBeaversStep f n) (pairIn n w1)) passLimit → ρ ≡ rootReport f n (slot n w₀ 0)
     unfolding rootReport
-    root-reported ρ h = rw (ne-eqb n 1 two) (h ∙ (λ i. gathered beside nothing (pairReport f n) (states i) passLimit))
+    root-reported ρ h = rw (ne-eqb n 1 two) (h ∙ (λ i. iterationReport (pairReport f n) (states i) passLimit))

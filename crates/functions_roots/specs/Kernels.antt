@@ -1,5 +1,5 @@
 -- A pass of the code as a step of a definition, and what the parts of the root and of its derivative leave in a workspace. Only the contracts of kernels cite it. Definitions only.
-use Prim.Native.Nat.{ℕ, _*_}
+use Prim.Native.Nat.{ℕ, _*_, _≤_}
 use mathlib.Core.Path.{_≡_}
 use mathlib.Core.Bool.{Bool, true, false}
 use mathlib.Core.List.{List, [], _∷_}
@@ -8,14 +8,14 @@ use lib.Ieee.{Float, Format}
 use Rattle.arithmetic_matrices.specs.Workspace.{slot, member, Only}
 use Rattle.lu_factoring.specs.declared.LuOutcome.{LuOutcome}
 use Rattle.lu_factoring.specs.Solve.{division, inverse, whereFactored}
-use Rattle.functions_definitions.specs.Iterate.{Step, running, stopped, failed, after, gathered}
+use Rattle.functions_definitions.specs.Iterate.{Step, running, stopped, failed, after}
 use Rattle.functions_definitions.specs.Roots.{passLimit, newtonNext, newton, Pair, denmanBeaversNext}
 use Rattle.functions_definitions.specs.Derivatives.{columnDivision}
+use Rattle.functions_definitions.specs.Reports.{iterationReport}
 use Rattle.functions_roots.specs.declared.pass.Pass.{Pass}
 use Rattle.functions_roots.specs.declared.pass.Passed.{Passed}
 use Rattle.functions_roots.specs.declared.pass.Pass.the-variants.{Running, Stopped, Failed}
 use Rattle.arithmetic_questions.specs.Result.{Result, refused, done}
-use Rattle.arithmetic_questions.specs.Reports.{nothing, beside}
 use Rattle.arithmetic_questions.specs.declared.answer.Report.{Report}
 
 -- ---- the passes of an iteration
@@ -47,19 +47,20 @@ pub record Passes {S : Type 0} (g : ℕ → S → Step S) (count : ℕ) (read : 
   pub step : asStep r (read w′) ≡ after g (read w) count
   pub only : Only (member ss) w w′
 
--- r reports v where it has a result
-abbrev pub Reports : Passed → Report → Type 0
-Reports r v = answered (r .pass) ≡ true → r .report ≡ v
+-- r reports v where it has a result, and at most b steps in any case
+pub record Reports (b : ℕ) (r : Passed) (v : Report) : Type 0 where
+  pub few : r .report .steps ≤ b
+  pub report : answered (r .pass) ≡ true → r .report ≡ v
 
--- one pass that reports h of the state it starts from
+-- one pass that reports h of the state it starts from; the loop counts its step
 pub record ReportedPass {S : Type 0} (g : S → Step S) (h : S → Report) (read : List Float → S) (ss : List ℕ) (r : Passed) (w w′ : List Float) : Type 0 where
   pub passed : OnePass g read ss (r .pass) w w′
-  pub reports : Reports r (h (read w))
+  pub reports : Reports 0 r (h (read w))
 
--- at most `count` such passes, which report what each of them does
+-- at most `count` such passes, which report what each of them does, how many there were, and whether the test of one ended them
 pub record ReportedPasses {S : Type 0} (g : ℕ → S → Step S) (h : S → Report) (count : ℕ) (read : List Float → S) (ss : List ℕ) (r : Passed) (w w′ : List Float) : Type 0 where
   pub passed : Passes g count read ss (r .pass) w w′
-  pub reports : Reports r (gathered beside nothing h (after g (read w)) count)
+  pub reports : Reports count r (iterationReport h (after g (read w)) count)
 
 -- ---- a division in an iteration: the matrix of order n in slot 2 is factored in place
 

@@ -21,6 +21,7 @@ use arithmetic_questions::answer::Outcome;
 use arithmetic_questions::answer::Refusal;
 use arithmetic_questions::answer::beside;
 use arithmetic_questions::answer::done;
+use arithmetic_questions::answer::iterated;
 use arithmetic_questions::answer::nothing;
 use arithmetic_questions::answer::refused;
 use arithmetic_questions32::report::factored;
@@ -46,7 +47,7 @@ fn means(w: &mut [f32], n: usize) -> Pass
 fn second_inverse(w: &mut [f32], n: usize) -> Passed
     requires { ⌜ Room n (now w) ⌝ }
     ensures { λ r. ⌜ SecondInverse binary32 n (r .pass) (now (w .entry)) (now (w .exit)) ⌝ }
-    ensures { λ r. ⌜ Reports r (luReport binary32 n (slot n (now (w .entry)) 0)) ⌝ }
+    ensures { λ r. ⌜ Reports 0 r (luReport binary32 n (slot n (now (w .entry)) 0)) ⌝ }
 {
     copy(w, 0, 2, n);
     identity(w, 4, n);
@@ -109,7 +110,7 @@ fn root_passes(w: &mut [f32], n: usize) -> Passed
             Pass::Stopped => {
                 return Passed {
                     pass: Pass::Stopped,
-                    report,
+                    report: beside(report, iterated(i + 1, true)),
                 };
             }
             Pass::Failed => {
@@ -123,7 +124,7 @@ fn root_passes(w: &mut [f32], n: usize) -> Passed
     }
     Passed {
         pass: Pass::Running,
-        report,
+        report: beside(report, iterated(i, false)),
     }
 }
 

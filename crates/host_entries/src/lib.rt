@@ -1,6 +1,7 @@
 // The public calls, for a test from outside, which compares all that a caller can see. Rattle has one NaN, so only a caller in another language sees
 // whether a refused call leaves the sign and the payload of the NaNs that it was lent. Each answers the refusal's number, and 0 where the call is done;
-// its report has three numbers: the halvings and 0 where it is done, or both details of a refusal; and the bits of the smallest pivot.
+// its report has five numbers: the halvings and 0 where it is done, or both details of a refusal; the bits of the smallest pivot; the steps; and 1 where
+// the iterations settled, or 0.
 use arithmetic::Answer;
 use arithmetic::Outcome;
 use arithmetic::Refusal;
@@ -49,6 +50,8 @@ fn tell_refusal(report: &mut [usize], why: Refusal) -> u64 {
 
 fn tell(report: &mut [usize], outcome: Outcome, run: Report) -> u64 {
     put(report, 2, smallest_bits(run) as usize);
+    put(report, 3, run.steps as usize);
+    put(report, 4, if run.settled { 1 } else { 0 });
     match outcome {
         Outcome::Done { halvings } => told(report, halvings as usize, 0, 0),
         Outcome::Refused(why) => tell_refusal(report, why),

@@ -1,1 +1,3 @@
 pub mod Smallest
+pub mod Settled
+pub mod Logarithms

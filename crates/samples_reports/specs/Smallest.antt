@@ -6,11 +6,11 @@ use mathlib.Core.Bool.{true, false}
 use mathlib.Core.List.{List, [], _∷_, map}
 use lib.IntN.{pos}
 use lib.Ieee.{Float, nan, inf, fin, Format, binary32, binary64, toBits}
-use Rattle.arithmetic_floats.specs.Float.{+zero, one, half}
+use Rattle.arithmetic_floats.specs.Float.{+zero, one}
 use Rattle.arithmetic_questions.specs.Reports.{reportAt}
 use Rattle.arithmetic_questions.specs.declared.answer.Report.{Report}
 use Rattle.functions_definitions.specs.Roots.{squareRoot}
-use Rattle.functions_definitions.specs.Reports.{luReport, expReport, frechetExpReport, condExpReport, rootReport, frechetSqrtReport, logReport, frechetLogReport, powerReport}
+use Rattle.functions_definitions.specs.Reports.{luReport, expReport, frechetExpReport, condExpReport, rootReport, frechetSqrtReport, powerReport}
 use Rattle.samples.specs.Shown.{same}
 use Rattle.samples.specs.Opened.{all}
 
@@ -20,13 +20,13 @@ bits l = map (λ (r : Report). toBits binary64 (r .smallest)) l
 
 -- ---- the numbers: A = [[3, 0], [2, 4]], the direction E = [[1, 2], [3, 4]]
 
-abbrev whole : ℕ → Float
+abbrev pub whole : ℕ → Float
 whole n = fin false n (pos 0)
 
-abbrev lower : List Float
+abbrev pub lower : List Float
 lower = whole 3 ∷ +zero ∷ whole 2 ∷ whole 4 ∷ []
 
-abbrev toward : List Float
+abbrev pub toward : List Float
 toward = whole 1 ∷ whole 2 ∷ whole 3 ∷ whole 4 ∷ []
 
 -- ---- LU
@@ -94,27 +94,3 @@ roots-hold = refl
 pub roots-hold-single : same (0x3fe0000000000000 ∷ 0x3fe0000000000000 ∷ 0x7ff0000000000000 ∷ 0x7ff0000000000000 ∷ 0x7ff0000000000000 ∷ []) (bits (roots binary32)) ≡ true
 unfolding all
 roots-hold-single = refl
-
--- ---- logarithms, one claim each, since one takes many steps
-
-pub log-holds : bits (logReport binary64 2 lower ∷ []) ≡ 0x3ff08f106b154902 ∷ []
-unfolding all
-log-holds = refl
-
-pub log-holds-single : bits (logReport binary32 2 lower ∷ []) ≡ 0x3ff08f1060000000 ∷ []
-unfolding all
-log-holds-single = refl
-
-pub frechet-log-holds-single : bits (frechetLogReport binary32 2 lower toward ∷ []) ≡ 0x3ff08f1060000000 ∷ []
-unfolding all
-frechet-log-holds-single = refl
-
--- the power 1/2: the logarithm, and the exponential of half of it
-pub power-holds-single : bits (powerReport binary32 2 lower half ∷ []) ≡ 0x3fe692b7e0000000 ∷ []
-unfolding all
-power-holds-single = refl
-
--- no root is taken of the identity; the exponential of half its logarithm has the denominator I
-pub identity-holds : bits (logReport binary64 2 (one ∷ +zero ∷ +zero ∷ one ∷ []) ∷ powerReport binary64 2 (one ∷ +zero ∷ +zero ∷ one ∷ []) half ∷ []) ≡ 0x7ff0000000000000 ∷ 0x3ff0000000000000 ∷ []
-unfolding all
-identity-holds = refl

@@ -5,5 +5,4 @@ pub mod Exponentials
 pub mod Roots
 pub mod Powers
 pub mod Factors
-pub mod Passes
 pub mod Kroneckers

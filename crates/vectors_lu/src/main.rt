@@ -1,7 +1,7 @@
 // Runs the recorded vectors that it reads on standard input, and compares every outcome, every output and what is left in the workspace bit
 // for bit, NaN as one value. It writes a line for each function: how many calls there are and how many differ. host/README.md describes the
-// vectors; tools/record-vectors makes those in the file stdin, and says which they are. The last line of each function is planted: the last number
-// of its outputs is wrong in the last bit, and the program must find it. So stdout says of each function that one call differs, on that line.
+// vectors; tools/record-vectors makes those in the file stdin, and says which they are. The last four lines of each function are planted,
+// and the program must find each. So stdout says of each function that four calls differ, from the first of those lines on.
 ghost use Prim.Native.Nat.{_≤_};
 ghost use lib.ListN.{length};
 

@@ -20,10 +20,12 @@ struct Ending {
     second: u64,
 }
 
-// The recorded outcome, the bits of the smallest pivot, and where the recorded outputs start.
+// The recorded outcome and report, of which the smallest pivot is its bits, and where the recorded outputs start.
 struct Recorded {
     ending: Ending,
     smallest: u64,
+    steps: u64,
+    settled: bool,
     next: usize,
 }
 
@@ -73,14 +75,16 @@ fn ending_of(outcome: Outcome) -> Ending {
     }
 }
 
-// The recorded outcome with which s starts: `ok HALVINGS SMALLEST`, or `no NUMBER DETAIL DETAIL`.
+// The recorded outcome with which s starts: `ok HALVINGS SMALLEST STEPS SETTLED`, or `no NUMBER DETAIL DETAIL`.
 fn recorded_outcome(s: &[u8]) -> Recorded
     ensures { λ r. ⌜ r .next ≤ length (now (s .entry)) ⌝ }
 {
     let at = after(s, 0, b' ');
     let one = word(s, at);
     let two = word(s, one.next);
+    let three = word(s, two.next);
     if begins(s, b"ok ") {
+        let four = word(s, three.next);
         return Recorded {
             ending: Ending {
                 number: 0,
@@ -88,10 +92,11 @@ fn recorded_outcome(s: &[u8]) -> Recorded
                 second: 0,
             },
             smallest: two.value,
-            next: two.next,
+            steps: three.value,
+            settled: four.value == 1,
+            next: four.next,
         };
     }
-    let three = word(s, two.next);
     Recorded {
         ending: Ending {
             number: one.value,
@@ -99,12 +104,20 @@ fn recorded_outcome(s: &[u8]) -> Recorded
             second: three.value,
         },
         smallest: INFINITY,
+        steps: 0,
+        settled: false,
         next: three.next,
     }
 }
 
 fn same_ending(a: Ending, b: Ending) -> bool {
     a.number == b.number && a.first == b.first && a.second == b.second
+}
+
+fn same_report(report: Report, recorded: Recorded) -> bool {
+    smallest_bits(report) == recorded.smallest
+        && report.steps == recorded.steps
+        && report.settled == recorded.settled
 }
 
 // Whether the first numbers of x, `cleared` of them, are +0 and the others are as they were lent.
@@ -161,7 +174,7 @@ fn cleared_after(number: u64) -> usize {
     if number == 0 || 12 <= number { 8192 } else { 0 }
 }
 
-// Whether the recorded outcome s and its smallest pivot are these, the workspace w is left as the outcome says, and x, y and the pivots are what was
+// Whether the recorded outcome s and its report are these, the workspace w is left as the outcome says, and x, y and the pivots are what was
 // recorded or, after a refusal, as they were lent. What a function does not have is empty.
 pub fn same_call(
     s: &[u8],
@@ -175,7 +188,7 @@ pub fn same_call(
     let ending = ending_of(outcome);
     let recorded = recorded_outcome(s);
     let wanted = recorded.ending;
-    if !same_ending(ending, wanted) || smallest_bits(report) != recorded.smallest {
+    if !same_ending(ending, wanted) || !same_report(report, recorded) {
         return false;
     }
     if !cleared_to(w, cleared_after(ending.number)) {
@@ -188,13 +201,13 @@ pub fn same_call(
     lent && recorded.next == s.len()
 }
 
-// Whether the recorded outcome s and its smallest pivot are these, the workspace w is left as the outcome says, and the returned numbers x are what was
+// Whether the recorded outcome s and its report are these, the workspace w is left as the outcome says, and the returned numbers x are what was
 // recorded or, after a refusal, +0.
 pub fn same_values(s: &[u8], outcome: Outcome, report: Report, x: &[f32], w: &[f32]) -> bool {
     let ending = ending_of(outcome);
     let recorded = recorded_outcome(s);
     let wanted = recorded.ending;
-    if !same_ending(ending, wanted) || smallest_bits(report) != recorded.smallest {
+    if !same_ending(ending, wanted) || !same_report(report, recorded) {
         return false;
     }
     if !cleared_to(w, cleared_after(ending.number)) {

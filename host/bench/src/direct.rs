@@ -150,7 +150,7 @@ mod tests {
     fn a_call_that_differs_is_not_timed() {
         let wrong = |_: &Call<f32>, lent: &mut Lent<f32>| {
             lent.outputs[0].lent_mut()[0] = 0;
-            Told { number: 13, report: [0, 0], smallest: f64::INFINITY.to_bits() }
+            Told { number: 13, report: [0, 0], smallest: f64::INFINITY.to_bits(), steps: 0, settled: false }
         };
         checked(&wrong, &call(Expm, 2, 0.0));
     }

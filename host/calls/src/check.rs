@@ -53,9 +53,11 @@ fn guards<T: Width>(lent: &Lent<T>) -> Vec<u64> {
     all
 }
 
-/// What is not as the source has it: the report with its smallest pivot, the outputs, the pivots, the numbers that are returned.
+/// What is not as the source has it: the report with its smallest pivot, its steps and whether they settled, the outputs, the pivots, the numbers that are
+/// returned.
 fn difference<T: Width>(call: &Call<T>, done: &Done<T>, after: &Lent<T>, told: Told) -> Option<String> {
-    let wanted = Told { number: 0, report: [done.halvings, 0], smallest: done.smallest.to_bits() };
+    let Done { halvings, steps, settled, .. } = *done;
+    let wanted = Told { number: 0, report: [halvings, 0], smallest: done.smallest.to_bits(), steps, settled };
     if told != wanted {
         return Some(format!("wanted {wanted:?}\n  given  {told:?}"));
     }
@@ -70,9 +72,11 @@ fn difference<T: Width>(call: &Call<T>, done: &Done<T>, after: &Lent<T>, told: T
     (pivots != done.pivots).then(|| format!("pivots\n  wanted {:?}\n  given  {pivots:?}", done.pivots))
 }
 
-/// What a refused call does otherwise: the number, the details, a smallest pivot that is not plus infinity, and returned numbers that are not +0.
+/// What a refused call does otherwise: the number, the details, a smallest pivot that is not plus infinity, steps that are not 0, a call that settled, and
+/// returned numbers that are not +0.
 fn unrefused<T: Width>(Refusal(number, first, second): Refusal, after: &Lent<T>, told: Told) -> Option<String> {
-    let wanted = Told { number, report: [first, second], smallest: f64::INFINITY.to_bits() };
+    let smallest = f64::INFINITY.to_bits();
+    let wanted = Told { number, report: [first, second], smallest, steps: 0, settled: false };
     if told != wanted {
         return Some(format!("wanted {wanted:?}\n  given  {told:?}"));
     }

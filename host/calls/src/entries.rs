@@ -6,19 +6,22 @@ use std::fmt;
 use vectors::call::Call;
 use vectors::width::Width;
 
-/// What a call reports: the refusal's number, 0 where it is done; then its halvings and 0, or the refusal's details; and the bits of its smallest pivot, an
-/// f64 in both widths.
+/// What a call reports: the refusal's number, 0 where it is done; then its halvings and 0, or the refusal's details; the bits of its smallest pivot, an f64
+/// in both widths; its steps, and whether they settled.
 #[derive(Clone, Copy, PartialEq, Eq)]
 pub struct Told {
     pub number: usize,
     pub report: [usize; 2],
     pub smallest: u64,
+    pub steps: usize,
+    pub settled: bool,
 }
 
 impl fmt::Debug for Told {
     fn fmt(&self, f: &mut fmt::Formatter) -> fmt::Result {
-        let Told { number, report, smallest } = self;
-        write!(f, "Told {{ number: {number}, report: {report:?}, smallest: {smallest:016x} }}")
+        let Told { number, report, smallest, steps, settled } = self;
+        write!(f, "Told {{ number: {number}, report: {report:?}, smallest: {smallest:016x}, ")?;
+        write!(f, "steps: {steps}, settled: {settled} }}")
     }
 }
 
@@ -131,7 +134,7 @@ macro_rules! linked {
                 let (p, pl) = (pivots.as_mut_ptr(), pivots.len());
                 let numbers = lent.numbers.lent_mut();
                 let (v, vl) = (numbers.as_mut_ptr().cast(), numbers.len());
-                let mut report = [usize::MAX; 3];
+                let mut report = [usize::MAX; 5];
                 let (r, rl) = (report.as_mut_ptr(), report.len());
                 // SAFETY: the pointers and lengths are those of slices that do not overlap, and every pattern of bits is a number. The calls have no
                 // `requires`.
@@ -154,8 +157,9 @@ macro_rules! linked {
                         KronSum => kron_sum(m, n, a, al, k, l, e, el, x, xl, r, rl),
                     }
                 };
-                let [first, second, smallest] = report;
-                Told { number: number as usize, report: [first, second], smallest: smallest as u64 }
+                let [first, second, smallest, steps, settled] = report;
+                assert!(settled <= 1, "{} reports {settled} where 1 or 0 says whether it settled", c.function.name());
+                Told { number: number as usize, report: [first, second], smallest: smallest as u64, steps, settled: settled == 1 }
             }
         }
     };

@@ -20,6 +20,11 @@ impl<T: Width> Trial<T> {
     }
 }
 
+/// A trial of a call that is written out.
+pub fn written<T>(call: Call<T>) -> Trial<T> {
+    Trial { call, random: Random::new(0) }
+}
+
 /// Another length for one thing that is lent.
 fn mislay<T: Width>(call: &mut Call<T>, r: &mut Random) {
     match r.below(4) {

@@ -3,12 +3,13 @@
 use calls::check::CLEARED;
 use calls::entries::Told;
 use calls::lent::{Lent, Slice, returned};
-use calls::make::{Trial, trial};
+use calls::make::{Trial, trial, written};
 use calls::run::{judge, run};
 use oracle::Lu;
 use vectors::answer::answer;
 use vectors::call::{Call, FUNCTIONS, Function, Function::*, Outcome, Refusal};
-use vectors::smallest::{factorings, smallest, smallest_pivot};
+use vectors::given::given;
+use vectors::reports::{Iteration, Part, Part::*, Run, repeated, settled, smallest, smallest_pivot, steps};
 use vectors::width::Width;
 
 /// Trials, with the outcome that each must have.
@@ -39,17 +40,20 @@ fn stand_in<T: Width>(outcome: &Outcome<T>, call: &Call<T>, lent: &mut Lent<T>) 
         }
         _ => put(&mut lent.numbers, &[T::zero(); 3]),
     }
-    Told { number, report, smallest: outcome.smallest().unwrap_or(f64::INFINITY).to_bits() }
+    let smallest = outcome.smallest().unwrap_or(f64::INFINITY).to_bits();
+    let (steps, settled) = outcome.iterated().unwrap_or((0, true));
+    Told { number, report, smallest, steps, settled }
 }
 
 impl<T: Width> Tries<T> {
     fn new() -> Tries<T> {
-        let tried = |k| {
-            let t = trial::<T>(1, k);
+        let tried = |t: Trial<T>| {
             let outcome = answer(&t.call);
             (t, outcome)
         };
-        Tries((0..3000).map(tried).collect())
+        // Those that are written out have steps that run out, or settle in the last pass.
+        let iterated = [Logm, Sqrtm, Powm, FrechetLogm, FrechetSqrtm].into_iter().flat_map(given).map(written);
+        Tries((0..3000).map(|k| trial(1, k)).chain(iterated).map(tried).collect())
     }
 
     /// The first call that is found of a stand-in that is changed after it did what it must, and what is said of it.
@@ -168,7 +172,42 @@ fn wrong_smallest<T: Width>(tries: &Tries<T>) {
     for wrong in [Sqrtm, Logm, FrechetLogm, Powm] {
         let change = |call: &Call<T>, _: &mut Lent<T>, told: &mut Told| {
             if call.function == wrong && told.number == 13 {
-                told.smallest = smallest(&factorings(call, None)).to_bits()
+                told.smallest = smallest(&repeated(call, None).factorings).to_bits()
+            }
+        };
+        assert_eq!(tries.function(change), wrong);
+    }
+}
+
+/// Steps that are one more or less and a settling that is turned round, of each function, and both of them after a refusal.
+fn wrong_steps<T: Width>(tries: &Tries<T>) {
+    let changes: [&dyn Fn(&mut Told); 3] =
+        [&|told| told.steps += 1, &|told| told.steps = told.steps.wrapping_sub(1), &|told| {
+            told.settled = !told.settled
+        }];
+    for change in changes {
+        for (wrong, _) in FUNCTIONS {
+            let of_function = |call: &Call<T>, _: &mut Lent<T>, told: &mut Told| {
+                if call.function == wrong && told.number == 0 {
+                    change(told)
+                }
+            };
+            assert_eq!(tries.function(of_function), wrong);
+        }
+        for number in REFUSALS {
+            let (_, fault) = tries.found(|_, _, told| {
+                if told.number == number {
+                    change(told)
+                }
+            });
+            assert!(fault.contains(&format!("number: {number},")), "{fault}");
+        }
+    }
+    // What was counted before the refusal, in a logarithm's first roots or in the first logarithm.
+    for wrong in [Logm, FrechetLogm, Powm] {
+        let change = |call: &Call<T>, _: &mut Lent<T>, told: &mut Told| {
+            if call.function == wrong && told.number == 13 {
+                told.steps = steps(&repeated(call, None).iterations)
             }
         };
         assert_eq!(tries.function(change), wrong);
@@ -203,12 +242,22 @@ fn wrong_pivots<T: Width>(tries: &Tries<T>) {
     found(&|pivots| magnitudes(pivots).iter().fold(T::zero(), |most, x| if *x > most { *x } else { most }));
 }
 
+/// The run of a call that is done; of another none.
+fn run_of<T: Width>(call: &Call<T>) -> Option<Run<T>> {
+    match answer(call) {
+        Outcome::Done(done) => Some(repeated(call, Some(&done.outputs))),
+        _ => None,
+    }
+}
+
+/// The run of frechet_logm's first logarithm.
+fn first_logarithm<T: Width>(call: &Call<T>) -> Run<T> {
+    run_of(&Call::coded(Logm, call.rows, &call.matrix, &[], T::zero())).expect("the first logarithm is done")
+}
+
 /// How many of its factorings frechet_logm makes for the first logarithm.
 fn of_first_logarithm<T: Width>(call: &Call<T>) -> usize {
-    match answer(&Call::coded(Logm, call.rows, &call.matrix, &[], T::zero())) {
-        Outcome::Done(done) => factorings(&Call { function: Logm, ..call.clone() }, Some(&done.outputs)).len(),
-        outcome => panic!("{outcome:?}"),
-    }
+    first_logarithm(call).factorings.len()
 }
 
 /// Which smallest pivots a call reports on, of those of its factorings.
@@ -219,9 +268,9 @@ fn wrong_factorings<T: Width>(tries: &Tries<T>) {
     let found = |wrong: Function, chosen: Chosen<T>| {
         let change = |call: &Call<T>, _: &mut Lent<T>, told: &mut Told| {
             if call.function == wrong
-                && let Outcome::Done(done) = answer(call)
+                && let Some(run) = run_of(call)
             {
-                told.smallest = smallest(&chosen(call, factorings(call, Some(&done.outputs)))).to_bits()
+                told.smallest = smallest(&chosen(call, run.factorings)).to_bits()
             }
         };
         assert_eq!(tries.function(change), wrong);
@@ -249,6 +298,112 @@ fn wrong_factorings<T: Width>(tries: &Tries<T>) {
     for none in [Cosm, Sinm, Powm, LuSolve, LuDeterminant] {
         found(none, &|call, all| if all.is_empty() { alone(call) } else { all });
     }
+}
+
+/// Iterations of one part that are taken otherwise.
+fn each(part: Part, change: impl Fn(Iteration) -> Iteration, all: &[Iteration]) -> Vec<Iteration> {
+    all.iter().map(|x| if x.part == part { change(*x) } else { *x }).collect()
+}
+
+/// The step that meets the test is not counted.
+fn last_left_out(x: Iteration) -> Iteration {
+    Iteration { steps: x.steps - usize::from(x.settled), ..x }
+}
+
+/// An iteration that runs out is taken for settled; of the roots of a logarithm, what they leave is not asked about.
+fn always_settled(x: Iteration) -> Iteration {
+    Iteration { settled: true, ..x }
+}
+
+/// An iteration that settles in the hundredth pass is taken for one that runs out.
+fn hundredth_unsettled(x: Iteration) -> Iteration {
+    Iteration { settled: x.settled && x.steps < 100, ..x }
+}
+
+fn uncounted(x: Iteration) -> Iteration {
+    Iteration { steps: 0, ..x }
+}
+
+/// Terms are counted from term 3 on.
+fn from_third_term(x: Iteration) -> Iteration {
+    Iteration { steps: x.steps - 1, ..x }
+}
+
+/// The first term is counted, too.
+fn from_first_term(x: Iteration) -> Iteration {
+    Iteration { steps: x.steps + 1, ..x }
+}
+
+/// How a call takes the iterations of its run.
+type Counted<'a, T> = &'a dyn Fn(&Call<T>, &[Iteration]) -> Vec<Iteration>;
+
+/// A stand-in for a function that reports on its iterations in this way is found.
+#[track_caller]
+fn found_by_iterations<T: Width>(tries: &Tries<T>, wrong: Function, counted: Counted<T>) {
+    let change = |call: &Call<T>, _: &mut Lent<T>, told: &mut Told| {
+        if call.function == wrong
+            && let Some(run) = run_of(call)
+        {
+            let iterations = counted(call, &run.iterations);
+            (told.steps, told.settled) = (steps(&iterations), settled(&iterations));
+        }
+    };
+    assert_eq!(tries.function(change), wrong);
+}
+
+/// Reports of roots' and logarithms' iterations that are counted otherwise, or are settled otherwise.
+fn wrong_iterations<T: Width>(tries: &Tries<T>) {
+    let found = |wrong: Function, counted: Counted<T>| found_by_iterations(tries, wrong, counted);
+    for root in [Sqrtm, FrechetSqrtm] {
+        found(root, &|_, all| each(Root, last_left_out, all));
+        found(root, &|_, all| each(Root, always_settled, all));
+    }
+    for logarithm in [Logm, FrechetLogm, Powm] {
+        for part in [Newton, Series] {
+            found(logarithm, &|_, all| each(part, last_left_out, all));
+            found(logarithm, &|_, all| each(part, uncounted, all));
+        }
+        found(logarithm, &|_, all| each(Newton, always_settled, all));
+        found(logarithm, &|_, all| each(Rooting, always_settled, all));
+        found(logarithm, &|_, all| each(Series, from_third_term, all));
+        found(logarithm, &|_, all| each(Series, from_first_term, all));
+    }
+    found(Sqrtm, &|_, all| each(Root, hundredth_unsettled, all));
+    found(Logm, &|_, all| each(Newton, hundredth_unsettled, all));
+    // Settled where the last root is, whatever the others are.
+    for logarithm in [Logm, Powm] {
+        found(logarithm, &|_, all| {
+            let last = all.iter().rposition(|x| x.part == Newton).unwrap_or(0);
+            [each(Newton, always_settled, &all[..last]), all[last..].to_vec()].concat()
+        });
+    }
+    // Without the first root, and without the last.
+    let others = |all: &[Iteration], left_out: Option<usize>| {
+        all.iter().enumerate().filter(|(k, _)| Some(*k) != left_out).map(|(_, x)| *x).collect::<Vec<Iteration>>()
+    };
+    found(Logm, &|_, all| others(all, all.iter().position(|x| x.part == Newton)));
+    found(Logm, &|_, all| others(all, all.iter().rposition(|x| x.part == Newton)));
+    // Where there is no iteration: a step, and not settled.
+    for none in [Sqrtm, FrechetSqrtm, Powm] {
+        for (steps, settled) in [(1, true), (0, false)] {
+            let another = [Iteration { part: Root, steps, settled }];
+            found(none, &|_, all| if all.is_empty() { another.to_vec() } else { all.to_vec() });
+        }
+    }
+}
+
+/// Reports of frechet_logm on one of its logarithms alone, and one that is settled where either is.
+fn wrong_logarithms<T: Width>(tries: &Tries<T>) {
+    let found = |counted: Counted<T>| found_by_iterations(tries, FrechetLogm, counted);
+    let split = |call: &Call<T>| first_logarithm(call).iterations.len();
+    found(&|call, all| all[..split(call)].to_vec());
+    found(&|call, all| all[split(call)..].to_vec());
+    // The steps are right in these three: one logarithm settles the call, the other, or either.
+    let settled_by =
+        |all: &[Iteration], is_settled: bool| vec![Iteration { part: Series, steps: steps(all), settled: is_settled }];
+    found(&|call, all| settled_by(all, settled(&all[..split(call)])));
+    found(&|call, all| settled_by(all, settled(&all[split(call)..])));
+    found(&|call, all| settled_by(all, settled(&all[..split(call)]) || settled(&all[split(call)..])));
 }
 
 /// A change of one NaN's sign, payload or kind that is left is found, and so is a number of the workspace that is not cleared, or is.
@@ -358,6 +513,9 @@ fn harness<T: Width>() {
     wrong_smallest(&tries);
     wrong_pivots(&tries);
     wrong_factorings(&tries);
+    wrong_steps(&tries);
+    wrong_iterations(&tries);
+    wrong_logarithms(&tries);
     wrong_leavings(&tries);
     beside_the_slices(&tries);
     outside_the_compared_domain(&tries);
@@ -386,6 +544,15 @@ fn a_number_of_the_wrong_width_is_found() {
         }
     });
     assert_eq!(call.function, Expm);
+    // The steps are those of the f32 tests.
+    let (call, _) = tries.found(|call, _, told| {
+        if call.function == Logm && told.number == 0 {
+            let matrix: Vec<f64> = call.matrix.iter().map(|x| f64::from(*x)).collect();
+            let wide = answer(&Call::coded(Logm, call.rows, &matrix, &[], 0.0));
+            told.steps = wide.iterated().map_or(0, |(steps, _)| steps)
+        }
+    });
+    assert_eq!(call.function, Logm);
 }
 
 /// A run counts every call, and ends at the first that differs.

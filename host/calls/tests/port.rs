@@ -1,8 +1,11 @@
 //! The port's calls, where their libraries were there when this was built.
 
 use calls::entries::Port;
-use calls::run::run;
-use vectors::call::{FUNCTIONS, Function, Function::*};
+use calls::make::written;
+use calls::run::{judge, run};
+use vectors::answer::answer;
+use vectors::call::{FUNCTIONS, Function, Function::*, line};
+use vectors::given::given;
 
 /// `cargo test --quiet` does not say why tests are ignored. What is written to standard error itself is shown.
 #[test]
@@ -53,14 +56,27 @@ fn does_not_differ<T: Port>() {
     assert!(tally.left_out() > 0 && tally.left_out() * 10 < tally.compared(), "{tally}");
 }
 
+/// The calls that are written out, those whose steps run out or settle in the last pass among them.
+fn does_not_differ_where_written<T: Port>() {
+    for (function, _) in FUNCTIONS.iter().filter(|(function, _)| function.coded()) {
+        for call in given::<T>(*function) {
+            let (outcome, trial) = (answer(&call), written(call));
+            let verdict = judge(T::port().expect(T::ABSENT), &trial, &outcome);
+            assert!(verdict.is_ok(), "{}\n{}", line(&trial.call, &outcome).unwrap_or_default(), verdict.unwrap_err());
+        }
+    }
+}
+
 #[test]
 #[cfg_attr(not(entries), ignore = "the library of the port's calls is not there")]
 fn the_calls_do_not_differ() {
     does_not_differ::<f64>();
+    does_not_differ_where_written::<f64>();
 }
 
 #[test]
 #[cfg_attr(not(entries32), ignore = "the library of the port's f32 calls is not there")]
 fn the_f32_calls_do_not_differ() {
     does_not_differ::<f32>();
+    does_not_differ_where_written::<f32>();
 }

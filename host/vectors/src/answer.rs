@@ -1,11 +1,11 @@
-//! The answer of a call: document 01's questions and question 17 of document 02's #102, then the source, and the smallest pivot of #103.
+//! The answer of a call: document 01's questions and question 17 of document 02's #102, then the source, and the report of #103 and #105.
 
 use crate::call::{Call, Done, Function::*, Outcome, Refusal};
 use crate::norms::{
     MOST_HALVINGS, block, even_direction, frobenius_norm, halvings, near_power_of_two, one_norm, source_halvings,
 };
 use crate::questions::asked;
-use crate::smallest::{factorings, smallest, whole};
+use crate::reports::{repeated, settled, smallest, steps, whole};
 use crate::width::Width;
 use oracle::{Lu, LuError, MatFunError};
 
@@ -20,8 +20,10 @@ fn two<T>(given: Result<(Vec<T>, Vec<T>), MatFunError>) -> Given<T> {
     given.map(|(x, y)| [x, y])
 }
 
+/// What is reported beside the halvings is that of a call without factorings and iterations.
 fn done<T>(halvings: usize, outputs: [Vec<T>; 2]) -> Outcome<T> {
-    Outcome::Done(Done { halvings, near: false, smallest: f64::INFINITY, outputs, pivots: Vec::new() })
+    let (near, smallest, steps, settled) = (false, f64::INFINITY, 0, true);
+    Outcome::Done(Done { halvings, near, smallest, steps, settled, outputs, pivots: Vec::new() })
 }
 
 /// A function without halvings. After questions 1 to 11 the source's only refusal is NotConverged.
@@ -107,6 +109,8 @@ fn computed<T: Width>(c: &Call<T>) -> Outcome<T> {
                 halvings: 0,
                 near: false,
                 smallest: f64::INFINITY,
+                steps: 0,
+                settled: true,
                 outputs: [lu.factors(), Vec::new()],
                 pivots: lu.pivots().to_vec(),
             }),
@@ -120,15 +124,19 @@ fn computed<T: Width>(c: &Call<T>) -> Outcome<T> {
     }
 }
 
-/// The steps that lead to the outputs, or to refusal 13 or 14, are repeated for the smallest pivot.
+/// The steps that lead to the outputs, or to refusal 13 or 14, are repeated for the report.
 pub fn answer<T: Width>(c: &Call<T>) -> Outcome<T> {
     if let Err(refusal) = asked(c) {
         return Outcome::Refused(refusal);
     }
     let mut outcome = computed(c);
     match &mut outcome {
-        Outcome::Done(done) => done.smallest = smallest(&factorings(c, Some(&done.outputs))),
-        Outcome::Refused(Refusal(13 | 14, _, _)) => drop(factorings(c, None)),
+        Outcome::Done(done) => {
+            let run = repeated(c, Some(&done.outputs));
+            done.smallest = smallest(&run.factorings);
+            (done.steps, done.settled) = (steps(&run.iterations), settled(&run.iterations));
+        }
+        Outcome::Refused(Refusal(13 | 14, _, _)) => drop(repeated(c, None)),
         _ => {}
     }
     outcome

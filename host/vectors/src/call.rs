@@ -78,6 +78,11 @@ impl Function {
         !matches!(self, Cosm | Sinm | LuSolve | LuDeterminant | Kron | KronSum)
     }
 
+    /// The functions that iterate: sqrtm and frechet_sqrtm from order 2 on, powm where its exponent is a fraction.
+    pub fn iterates(self) -> bool {
+        matches!(self, Logm | Sqrtm | Powm | FrechetLogm | FrechetSqrtm)
+    }
+
     /// A direction, a right-hand side or a second matrix stands beside the matrix.
     pub fn has_companion(self) -> bool {
         self.directed() || self == LuSolve || self.kronecker()
@@ -170,6 +175,9 @@ pub struct Done<T = f64> {
     pub near: bool,
     /// The smallest pivot magnitude of the factorings that succeeded, or plus infinity; in f32 the f32 number, widened.
     pub smallest: f64,
+    /// The passes of all root iterations and the terms of all series from term 2 on, and whether all of them settled.
+    pub steps: usize,
+    pub settled: bool,
     pub outputs: [Vec<T>; 2],
     pub pivots: Vec<usize>,
 }
@@ -188,6 +196,15 @@ impl<T> Outcome<T> {
         match self {
             Outcome::Done(done) => Some(done.smallest),
             Outcome::Refused(_) => Some(f64::INFINITY),
+            Outcome::Parted => None,
+        }
+    }
+
+    /// The steps that a call with this outcome reports, and whether it settled: 0 and no after a refusal, and none where it is not known.
+    pub fn iterated(&self) -> Option<(usize, bool)> {
+        match self {
+            Outcome::Done(done) => Some((done.steps, done.settled)),
+            Outcome::Refused(_) => Some((0, false)),
             Outcome::Parted => None,
         }
     }
@@ -243,6 +260,7 @@ pub fn line<T: Width>(call: &Call<T>, outcome: &Outcome<T>) -> Option<String> {
             line.push_str(if done.near { " | near" } else { " | ok" });
             put_counts(&mut line, &[done.halvings]);
             put_smallest(&mut line, done.smallest);
+            put_counts(&mut line, &[done.steps, usize::from(done.settled)]);
             put_numbers(&mut line, &done.outputs[0]);
             put_numbers(&mut line, &done.outputs[1]);
             put_pivots(&mut line, &done.pivots);

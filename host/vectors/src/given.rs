@@ -35,6 +35,9 @@ fn matrices<T: Width>() -> Vec<(usize, Vec<f64>)> {
     ]
 }
 
+/// Bits of a matrix of order 2 with an eigenvalue below 0: the passes of its square root run out on finite numbers, in f32 too.
+const RUNS_OUT: [u64; 4] = [0x3fd4269e0cbda768, 0xbffda4009d7ca03c, 0xbfd63dd6ee4da550, 0x3fee8a02742b51f0];
+
 const EXPONENTS: [f64; 10] = [0.0, 1.0, -1.0, 13.0, -7.0, 2.5, 0.5, 1e-15, 1e19, -1e19];
 
 /// The nearest numbers of the width.
@@ -79,6 +82,59 @@ fn at_limit<T: Width>(function: Function) -> [Call<T>; 3] {
     })
 }
 
+/// The matrix [[-x, -y], [y, -x]] of two powers of two.
+fn turned<T: Width>((x, y): (i32, i32)) -> Vec<T> {
+    let (x, y) = (T::power(x), T::power(y));
+    vec![-x, -y, y, -x]
+}
+
+/// Matrices whose square root's passes run out, settle in the hundredth, and settle soon.
+fn rooted<T: Width>() -> [Vec<T>; 3] {
+    let [hundredth, _] = T::EDGES.hundredth;
+    [rounded(&RUNS_OUT.map(f64::from_bits)), turned(hundredth), rounded(&[0.5, 1.0 / 3.0, 1.0 / 3.0, 0.25])]
+}
+
+/// diag(x, 0) for the largest number x. In f64 the passes of its logarithm's first root run out.
+fn largest<T: Width>() -> Vec<T> {
+    vec![T::largest(), T::zero(), T::zero(), T::zero()]
+}
+
+/// [[1, x], [0, 1]] for a power of two x. Its logarithm takes 100 roots of two passes each from 2^96 on, and from 2^97 on they leave a matrix that is far
+/// from the identity.
+fn shear<T: Width>(exponent: i32) -> Vec<T> {
+    banded(2, T::one(), T::power(exponent))
+}
+
+/// Matrices whose logarithms take many steps or few, settled or not. The trace of the second is infinite: two roots run out, the second on NaNs, of which
+/// no more are taken, and the series runs out, too.
+fn with_logarithms<T: Width>() -> [Vec<T>; 7] {
+    let [_, hundredth] = T::EDGES.hundredth;
+    let [triangle, identity] = [[3.0, 0.0, 2.0, 4.0], [1.0, 0.0, 0.0, 1.0]].map(|x| rounded(&x));
+    let infinite = banded(2, T::largest(), T::zero());
+    [largest(), infinite, shear(96), shear(97), turned(hundredth), triangle, identity]
+}
+
+/// Matrices and directions for frechet_logm. Of the shears' two logarithms both settle, neither, the first alone, and the second alone: it is that of the
+/// matrix and the root of the machine step times the direction.
+fn with_directions<T: Width>() -> [(Vec<T>, Vec<T>); 5] {
+    let size = T::power(96) / T::power(-(T::FRACTION as i32)).sqrt();
+    let sheared = |exponent, x| (shear(exponent), banded(2, T::zero(), x));
+    let one = T::one();
+    [(largest(), counting(2)), sheared(96, one), sheared(97, one), sheared(96, size), sheared(97, -size)]
+}
+
+/// Calls of order 2 that show the steps of roots and logarithms, and whether they settle.
+fn iterated<T: Width>(function: Function) -> Vec<Call<T>> {
+    let call = |matrix: &[T], direction: &[T], p: f64| Call::coded(function, 2, matrix, direction, T::of(p));
+    match function {
+        Sqrtm | FrechetSqrtm => rooted().map(|x| call(&x, &counting(2), 0.0)).to_vec(),
+        Logm => with_logarithms().map(|x| call(&x, &[], 0.0)).to_vec(),
+        FrechetLogm => with_directions().map(|(x, e)| call(&x, &e, 0.0)).to_vec(),
+        Powm => [(largest(), 0.5), (shear(96), 1e-12), (shear(97), 1e-12)].map(|(x, p)| call(&x, &[], p)).to_vec(),
+        _ => Vec::new(),
+    }
+}
+
 /// The calls of a function that has a code.
 pub fn given<T: Width>(function: Function) -> Vec<Call<T>> {
     let mut calls = Vec::new();
@@ -96,6 +152,7 @@ pub fn given<T: Width>(function: Function) -> Vec<Call<T>> {
     if function == Powm {
         calls.push(root_of_shear(T::of(1e25)));
     }
+    calls.extend(iterated(function));
     if function == FrechetSqrtm {
         // Nearly half a turn: the system of order 4 has the smallest pivot.
         calls.push(Call::coded(function, 2, &rounded(&[-0.25, -0.015625, 0.015625, -0.25]), &counting(2), T::zero()));

@@ -11,6 +11,6 @@ pub mod planted;
 pub mod questions;
 pub mod random;
 pub mod read;
+pub mod reports;
 pub mod roots;
-pub mod smallest;
 pub mod width;

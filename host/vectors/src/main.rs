@@ -1,5 +1,5 @@
 //! `vectors NAME SEED COUNT` prints COUNT calls of one function with their answers, `vectors given NAME` those that are written out, and
-//! `vectors roots` square roots. `vectors planted NAME` prints two calls that are wrong in one bit each, `vectors planted roots` one such root. With f32
+//! `vectors roots` square roots. `vectors planted NAME` prints four calls that are wrong in one bit each, `vectors planted roots` one such root. With f32
 //! before the other words the numbers are f32.
 
 use std::env::args;

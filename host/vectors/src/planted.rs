@@ -1,4 +1,4 @@
-//! Vectors that are wrong in one bit. A program that compares vectors must say that they differ.
+//! Vectors that are wrong in one place. A program that compares vectors must say that they differ.
 
 use crate::answer::answer;
 use crate::call::{Call, Done, Function, Outcome};
@@ -46,10 +46,33 @@ fn wrong_smallest<T: Width>(function: Function, done: &mut Done<T>) -> bool {
     suits
 }
 
-/// Two calls that are done, each with an outcome that is wrong in one last bit: of the last number of its outputs, and of its smallest pivot. Each
-/// function has them.
-pub fn planted<T: Width>(function: Function) -> [(Call<T>, Outcome<T>); 2] {
-    [changed(function, wrong_output), changed(function, |done| wrong_smallest(function, done))]
+/// One step more or less. The call has steps where the function iterates.
+fn wrong_steps<T: Width>(function: Function, done: &mut Done<T>) -> bool {
+    let suits = last_number(done).is_some() && (done.steps > 0) == function.iterates();
+    if suits {
+        done.steps ^= 1;
+    }
+    suits
+}
+
+/// Settled where it is not, or the other way round.
+fn wrong_settled<T: Width>(done: &mut Done<T>) -> bool {
+    let suits = last_number(done).is_some();
+    if suits {
+        done.settled = !done.settled;
+    }
+    suits
+}
+
+/// Four calls that are done, each with an outcome that is wrong in one last bit: of the last number of its outputs, of its smallest pivot, of its steps, and
+/// in whether it settled. Each function has them.
+pub fn planted<T: Width>(function: Function) -> [(Call<T>, Outcome<T>); 4] {
+    [
+        changed(function, wrong_output),
+        changed(function, |done| wrong_smallest(function, done)),
+        changed(function, |done| wrong_steps(function, done)),
+        changed(function, wrong_settled),
+    ]
 }
 
 /// The bits of 2, and those of its square root with another last bit.

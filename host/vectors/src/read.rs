@@ -20,6 +20,14 @@ impl<'a> Fields<'a> {
         self.bits() as usize
     }
 
+    fn is_yes(&mut self) -> bool {
+        match self.next() {
+            "1" => true,
+            "0" => false,
+            other => panic!("{other} is neither 1 nor 0"),
+        }
+    }
+
     fn numbers<T: Width>(&mut self) -> Vec<T> {
         let count = self.count();
         (0..count).map(|_| T::of_bits(self.bits())).collect()
@@ -49,8 +57,9 @@ pub fn read<T: Width>(line: &str) -> (Call<T>, Outcome<T>) {
         word => {
             assert!(word == "ok" || word == "near");
             let (halvings, smallest) = (f.count(), f64::from_bits(f.bits()));
-            let outputs = [f.numbers(), f.numbers()];
-            Outcome::Done(Done { halvings, near: word == "near", smallest, outputs, pivots: f.counts() })
+            let (steps, settled) = (f.count(), f.is_yes());
+            let (near, outputs) = (word == "near", [f.numbers(), f.numbers()]);
+            Outcome::Done(Done { halvings, near, smallest, steps, settled, outputs, pivots: f.counts() })
         }
     };
     assert!(f.0.next().is_none(), "extra fields");

@@ -24,6 +24,9 @@ pub struct Edges {
     /// An order, the matrix's entries on the diagonal and next above it, and the direction's last entry in its first column: the exponential is finite, and
     /// frechet_expm's run on the block would not be. The second and the third have more than 64 halvings.
     pub directed: [(usize, f64, f64, f64); 3],
+    /// Exponents of two powers of two, x and y. [[-x, -y], [y, -x]], nearly half a turn, has a root whose passes settle in the hundredth: the first pair by
+    /// Denman and Beavers' iteration, the second by Newton's, in a logarithm.
+    pub hundredth: [(i32, i32); 2],
 }
 
 /// A width of numbers.
@@ -143,6 +146,7 @@ impl Width for f64 {
         written_tiny: [1e-200, 1e-220],
         written_one: 1.0000000001,
         directed: [(8, 420.0, 1e16, 8e15), (2, 0.0, 1e200, 1e200), (2, 0.0, 1e100, 1e250)],
+        hundredth: [(59, -4), (59, -4)],
     };
     own!(f64, u64);
 }
@@ -182,6 +186,7 @@ impl Width for f32 {
         written_tiny: [1e-30, 1e-33],
         written_one: 1.0001,
         directed: [(2, 0.0, 1e15, 1e15), (2, 0.0, 1e30, 1e30), (2, 0.0, 1e15, 1e35)],
+        hundredth: [(32, -46), (124, 94)],
     };
     own!(f32, u32);
 }

@@ -44,13 +44,27 @@ fn lines_are_read_back() {
 fn a_line_in_full() {
     let text = "powm 2 2 0 0 4 0 2000 4008000000000000 \
                 4 3ff0000000000000 3ff0000000000000 0000000000000000 3ff0000000000000 0 0 \
-                | ok 0 7ff0000000000000 4 3ff0000000000000 4008000000000000 0000000000000000 3ff0000000000000 0 0";
+                | ok 0 7ff0000000000000 0 1 4 3ff0000000000000 4008000000000000 0000000000000000 3ff0000000000000 0 0";
     let (call, _) = read::<f64>(text);
     assert_eq!(line(&call, &answer(&call)).unwrap(), text);
     let text = "powm 2 2 0 0 4 0 2000 40400000 4 3f800000 3f800000 00000000 3f800000 0 0 \
-                | ok 0 7ff0000000000000 4 3f800000 40400000 00000000 3f800000 0 0";
+                | ok 0 7ff0000000000000 0 1 4 3f800000 40400000 00000000 3f800000 0 0";
     let (call, _) = read::<f32>(text);
     assert_eq!(line(&call, &answer(&call)).unwrap(), text);
+}
+
+/// Steps are written in hexadecimal, and a call that does not settle has 0 after them: 100 and no.
+#[test]
+fn steps_on_a_line() {
+    let unsettled = given::<f64>(Function::Sqrtm).into_iter().filter_map(|call| line(&call, &answer(&call)));
+    let start = "sqrtm 2 2 0 0 4 0 2000 0000000000000000 4 3fd4269e0cbda768 ";
+    let text = unsettled.into_iter().find(|text| text.starts_with(start)).expect("the call is written out");
+    let fields: Vec<&str> = text.split_once(" | ").unwrap().1.split(' ').collect();
+    assert_eq!((fields[..2].to_vec(), &fields[3..6]), (vec!["ok", "0"], &["64", "0", "4"][..]));
+    let (_, outcome) = read::<f64>(&text);
+    assert_eq!(outcome.iterated(), Some((100, false)));
+    let (_, outcome) = read::<f64>("logm 0 0 0 0 0 0 0 0000000000000000 0 0 0 | no 1 0 0");
+    assert_eq!(outcome.iterated(), Some((0, false)));
 }
 
 #[test]
@@ -197,16 +211,17 @@ fn wrong_place<T: Width>(call: &Call<T>, outcome: &Outcome<T>) -> usize {
     wrong[0]
 }
 
-/// Planted vectors have another last bit in one number, an output's or the smallest pivot, and nothing else is wrong in them.
+/// Planted vectors have another last bit in one number, an output's, the smallest pivot, the steps or settled, and nothing else is wrong in them.
 fn are_wrong_in_one_bit<T: Width>() {
     for (function, name) in FUNCTIONS {
         let texts = || planted::<T>(function).map(|(call, outcome)| line(&call, &outcome).unwrap());
         assert_eq!(texts(), texts(), "the same each time");
-        let [first, second] = planted::<T>(function);
-        assert!(wrong_place(&first.0, &first.1) > 3, "{name}");
+        let [first, second, third, fourth] = planted::<T>(function);
+        assert!(wrong_place(&first.0, &first.1) > 5, "{name}");
         assert_eq!(wrong_place(&second.0, &second.1), 2, "{name}");
         let right = answer(&second.0).smallest().unwrap();
         assert_eq!(right.is_finite(), function.factors(), "{name}");
+        assert_eq!((wrong_place(&third.0, &third.1), wrong_place(&fourth.0, &fourth.1)), (3, 4), "{name}");
     }
     let (x, root) = planted_root::<T>();
     assert_eq!(root ^ T::of_bits(x).sqrt().bits(), 1);

@@ -1,12 +1,14 @@
 -- `logm_in` meets its contract: a law for each end of the roots. Assumes nothing.
 use mathlib.Core.Path.{ap, _∙_}
 use lib.Ieee.{binary64}
+use Rattle.arithmetic_matrices.specs.Product.{minusIdentityM}
 use Rattle.arithmetic_matrices.specs.Workspace.{slot}
 use Rattle.arithmetic_questions.specs.declared.answer.Refusal.the-variants.{NotConverged}
-use Rattle.arithmetic_questions.proofs.ReportLaws.{report-done, report-refused}
+use Rattle.arithmetic_questions.proofs.ReportLaws.{report-done, report-refused, same-steps}
 use Rattle.functions_definitions.specs.Reports.{logReport}
+use Rattle.functions_definitions.proofs.StepLaws.{roots-few, series-few}
 use Rattle.functions_logarithms.specs.Kernels.{countOf}
-use Rattle.functions_logarithms.proofs.LogarithmLaws.{logarithm-done, logarithm-refused}
+use Rattle.functions_logarithms.proofs.LogarithmLaws.{logarithm-done, logarithm-reported, logarithm-refused}
 use native.Mathlib.Omega.{arith}
 use borrow.Author.Needs.{needs}
 use Rattle.functions_logarithms.proofs.logarithm.logm_in.Statement.{statement}
@@ -19,12 +21,30 @@ near-logarithm-requires c κs =
     let k = ap countOf (roots .roots .given .1) in
     (record { order = s .pre .order; space = omega (arith, t .kept .0, s .pre .space) }, omega (arith, k, t .ensures .few))
 
-returns : tie.Need-returns
-returns c =
+beside-requires : tie.Need-beside-requires
+beside-requires c κs =
     let (near-logarithm, roots, take-roots, s) : tie.After-near-logarithm × tie.After-roots × tie.After-take-roots × tie.Start = search in
     let t = take-roots .take-roots in
-    let R = logarithm-done binary64 (s .args .n) (s .args .w .now) (s .pre) (t .last .0) (t .result) (t .ensures) (roots .roots .given .0 .0) (near-logarithm .near-logarithm .last .0) (roots .roots .given .1) (near-logarithm .near-logarithm .ensures) in
-    (R, t .ensures .reports _ (roots .roots .given .1) ∙ report-done _ _ 0 (R .outcome))
+    let n = s .args .n in
+    omega (
+      arith,
+      same-steps (t .ensures .reports _ (roots .roots .given .1)),
+      roots-few binary64 n (slot n (s .args .w .now) 0),
+      same-steps (near-logarithm .near-logarithm .ensures .report),
+      series-few binary64 n (minusIdentityM binary64 n (slot n (t .last .0) 0)),
+    )
+
+returns : tie.Need-returns
+returns c =
+    let (beside, near-logarithm, roots, take-roots, s) : tie.After-beside × tie.After-near-logarithm × tie.After-roots × tie.After-take-roots × tie.Start = search in
+    let t = take-roots .take-roots in
+    let l = near-logarithm .near-logarithm in
+    let k = roots .roots .given .0 .0 in
+    let R = logarithm-done binary64 (s .args .n) (s .args .w .now) (s .pre) (t .last .0) (t .result) (t .ensures) k (l .last .0) (l .result) (roots .roots .given .1) (l .ensures) in (
+      R,
+      logarithm-reported binary64 (s .args .n) (s .args .w .now) (s .pre) (t .last .0) (t .result) (t .ensures) k (l .last .0) (l .result) (beside .beside .result) (roots .roots .given .1) (l .ensures) (beside .beside .ensures)
+          ∙ report-done _ _ 0 (R .outcome),
+    )
 
 returns-2 : tie.Need-returns-2
 returns-2 c =
@@ -41,6 +61,7 @@ logm-in-spec =
     (λ c κs. search needs)
     (λ c. search needs)
     near-logarithm-requires
+    beside-requires
     (λ c. search needs)
     (λ c κs. search needs)
     (λ c. search needs)

@@ -20,7 +20,7 @@ returns-2 c =
     tie.After-nothing × tie.After-enum-told2 × tie.After-divide-slot × tie.After-copy2 × tie.After-copy × tie.Start = search in
     let d = divide-slot .divide-slot in
     newton-failed binary64 (s .args .n) (s .args .w .now) (s .pre) (copy .copy .last .0) (copy2 .copy2 .last .0) (d .last .0) (d .result .outcome) (copy .copy .ensures) (copy2 .copy2 .ensures) (d .ensures .0)
-    (told2 .enum-told2 .given .0 .0) (nothing .nothing .result) (told2 .enum-told2 .given .1)
+    (told2 .enum-told2 .given .0 .0) (nothing .nothing .result) (told2 .enum-told2 .given .1) (nothing .nothing .ensures)
 
 pub newton-pass-spec : {M : Type 1} → statement M
 newton-pass-spec =

@@ -1,12 +1,19 @@
 -- `frechet_logm_in` meets its contract: a law for each outcome of the first logarithm. Assumes nothing.
+use native.Mathlib.Omega.{arith}
 use lib.Ieee.{binary32}
 use Rattle.arithmetic_matrices.specs.Workspace.{slot}
-use Rattle.arithmetic_questions.proofs.ReportLaws.{report-refused}
+use Rattle.arithmetic_questions.proofs.ReportLaws.{report-refused, steps-few}
 use Rattle.functions_definitions.specs.Reports.{frechetLogReport}
+use Rattle.functions_definitions.proofs.StepLaws.{log-few}
 use Rattle.functions_logarithms.proofs.LogDerivativeLaws.{frechet-follows, frechet-reported, frechet-refused}
 use borrow.Author.Needs.{needs}
 use Rattle.functions_logarithms32.proofs.log_derivative.frechet_logm_in.Statement.{statement}
 use Rattle.functions_logarithms32.proofs.log_derivative.frechet_logm_in.Tie as tie
+
+beside-requires : tie.Need-beside-requires
+beside-requires c κs =
+    let (second, logm-in) : tie.After-second-logarithm × tie.After-logm-in = search in
+    omega (arith, steps-few _ _ _ 10059 (logm-in .logm-in .ensures .1) (log-few binary32 _ _), steps-few _ _ _ 10059 (second .second-logarithm .ensures .1) (log-few binary32 _ _))
 
 returns : tie.Need-returns
 returns c =
@@ -40,7 +47,7 @@ frechet-logm-in-spec =
     (λ c κs. search needs)
     (λ c. search needs)
     (λ c κs. search needs)
-    (λ c κs. search needs)
+    beside-requires
     (λ c κs. search needs)
     (λ c. search needs)
     (λ c κs. search needs)

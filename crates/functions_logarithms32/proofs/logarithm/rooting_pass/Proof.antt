@@ -19,7 +19,7 @@ returns-2 c =
     let (nothing, left2, answers, newton-root, taken1, is-far, s) :
     tie.After-nothing × tie.Else2 × tie.After-answers × tie.After-newton-root × tie.Then1 × tie.After-is-far × tie.Start = search in
     let p = newton-root .newton-root in
-    far-failed binary32 (s .args .n) (s .args .w .now) (s .pre) (p .last .0) (p .result) (sym (is-far .is-far .ensures) ∙ taken1 .if1 .taken) (p .ensures) (nothing .nothing .result) (sym (answers .answers .ensures) ∙ left2 .if2 .left)
+    far-failed binary32 (s .args .n) (s .args .w .now) (s .pre) (p .last .0) (p .result) (sym (is-far .is-far .ensures) ∙ taken1 .if1 .taken) (p .ensures) (nothing .nothing .result) (sym (answers .answers .ensures) ∙ left2 .if2 .left) (nothing .nothing .ensures)
 
 returns-3 : tie.Need-returns-3
 returns-3 c =

@@ -1,4 +1,5 @@
 -- `fractional_power` meets its contract. Assumes nothing.
+use native.Mathlib.Omega.{arith}
 use mathlib.Core.Path.{refl}
 use mathlib.Core.List.{[], _∷_}
 use lib.Ieee.{binary32}
@@ -6,12 +7,18 @@ use Rattle.arithmetic_matrices.specs.Workspace.{slot}
 use Rattle.functions_definitions.specs.Logarithm.{logarithm}
 use Rattle.functions_definitions.specs.Powers.{fractionalPower, multipleExponential}
 use Rattle.functions_definitions.specs.Reports.{fractionalReport}
-use Rattle.arithmetic_questions.proofs.ReportLaws.{report-refused}
+use Rattle.functions_definitions.proofs.StepLaws.{exp-few, log-few}
+use Rattle.arithmetic_questions.proofs.ReportLaws.{report-refused, steps-few}
 use Rattle.functions_powers.proofs.PowerLaws.{fractional-reported}
 use Rattle.arithmetic_questions.proofs.ReplacedLaws.{then-refused, then-replaced}
 use borrow.Author.Needs.{needs}
 use Rattle.functions_powers32.proofs.power.fractional_power.Statement.{statement}
 use Rattle.functions_powers32.proofs.power.fractional_power.Tie as tie
+
+beside-requires : tie.Need-beside-requires
+beside-requires c κs =
+    let (last, call) : tie.After-multiple-exponential × tie.After-logm-in = search in
+    omega (arith, steps-few _ _ _ 10059 (call .logm-in .ensures .1) (log-few binary32 _ _), steps-few _ _ _ 0 (last .multiple-exponential .ensures .1) (exp-few binary32 _ _))
 
 returns : tie.Need-returns
 unfolding fractionalPower
@@ -51,7 +58,7 @@ fractional-power-spec =
     (λ c κs. search needs)
     (λ c. search needs)
     (λ c κs. search needs)
-    (λ c κs. search needs)
+    beside-requires
     (λ c κs. search needs)
     (λ c. search needs)
     returns

@@ -1,14 +1,23 @@
 -- `frechet_sqrtm_in` meets its contract: a law for each end. Assumes nothing.
+use native.Mathlib.Omega.{arith}
 use mathlib.Core.Path.{_∙_}
 use lib.Ieee.{binary32}
 use Rattle.arithmetic_matrices.specs.Workspace.{slot}
 use Rattle.arithmetic_questions.specs.declared.answer.Refusal.the-variants.{NotConverged}
-use Rattle.arithmetic_questions.proofs.ReportLaws.{report-done, report-refused}
+use Rattle.arithmetic_questions.proofs.ReportLaws.{report-done, report-refused, same-steps, steps-few}
 use Rattle.functions_definitions.specs.Reports.{frechetSqrtReport}
+use Rattle.functions_definitions.proofs.StepLaws.{root-few, derivative-few}
 use Rattle.functions_roots.proofs.RootDerivativeLaws.{root-refused-both, derivative-done, derivative-refused, derivative-reported}
 use borrow.Author.Needs.{needs}
 use Rattle.functions_roots32.proofs.root_derivative.frechet_sqrtm_in.Statement.{statement}
 use Rattle.functions_roots32.proofs.root_derivative.frechet_sqrtm_in.Tie as tie
+
+beside-requires : tie.Need-beside-requires
+beside-requires c κs =
+    let (taken1, derive-root, sqrtm-in, s) : tie.Then1 × tie.After-derive-root × tie.After-sqrtm-in × tie.Start = search in
+    let q = sqrtm-in .sqrtm-in in
+    let d = derive-root .derive-root in
+    omega (arith, steps-few _ _ _ 100 (q .ensures .1) (root-few binary32 _ _), same-steps (d .ensures .1 (taken1 .if1 .taken)), derivative-few binary32 (s .args .n) (slot (s .args .n) (q .last .0) 0))
 
 returns : tie.Need-returns
 returns c =
@@ -50,7 +59,7 @@ frechet-sqrtm-in-spec =
     (λ c κs. search needs)
     (λ c. search needs)
     (λ c κs. search needs)
-    (λ c κs. search needs)
+    beside-requires
     (λ c κs. search needs)
     (λ c. search needs)
     (λ c κs. search needs)

@@ -26,7 +26,7 @@ returns-2 c =
     let e = sym (answers .answers .ensures) ∙ taken2 .if2 .taken in
     let R = root-answers binary32 (s .args .n) (s .args .w .now) (s .pre) (identity .identity .last .0) (p .last .0) (p .result .pass) (left1 .if1 .left) (identity .identity .ensures) (P .passed) e in (
       R,
-      root-reported binary32 (s .args .n) (s .args .w .now) (s .pre) (identity .identity .last .0) (p .last .0) (p .result .pass) (left1 .if1 .left) (identity .identity .ensures) (P .passed) (p .result .report) (P .reports e)
+      root-reported binary32 (s .args .n) (s .args .w .now) (s .pre) (identity .identity .last .0) (p .last .0) (p .result .pass) (left1 .if1 .left) (identity .identity .ensures) (P .passed) (p .result .report) (P .reports .report e)
           ∙ report-done _ _ 0 (R .outcome),
     )
 

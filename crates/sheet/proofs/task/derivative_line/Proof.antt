@@ -27,10 +27,14 @@ put-answer-requires c κs =
       numbers = omega (arith, mul-le-mul (b .pre .0 .order) (b .pre .0 .order), b .pre .1 .0 .1, b .pre .1 .0 .2, v .kept .1 .1 .1 .1 .0, v .kept .1 .1 .1 .1 .1 .0);
     }
 
+-- the start is too far from the end for one search
+abbrev begun : tie.After-read-numbers → tie.After-direction-at × tie.Start
+begun read = search
+
 returns : tie.Need-returns
 returns c =
-    let (put-answer, derivative, read-numbers, direction-at, b) :
-    tie.After-put-answer × tie.After-derivative × tie.After-read-numbers × tie.After-direction-at × tie.Start = search in
+    let (put-answer, derivative, read-numbers) : tie.After-put-answer × tie.After-derivative × tie.After-read-numbers = search in
+    let (direction-at, b) = begun read-numbers in
     let a = b .args in
     let v = derivative .derivative in
     let r = read-numbers .read-numbers in

@@ -1,5 +1,6 @@
-//! The smallest pivot of a call, which document 02's #103 asks for. The source does not report pivots. So its steps are repeated here in its order, every
-//! factoring by its own `Lu`, and the outputs must be the source's: then the pivots are those of the source's run. A difference ends the program.
+//! The report of a call: the smallest pivot, which document 02's #103 asks for, and the steps and whether they settled, of #105. The source reports none
+//! of them. So its steps are repeated here in its order, every factoring by its own `Lu`, and the outputs must be the source's: then the pivots and the
+//! steps are those of the source's run. A difference ends the program.
 
 use crate::call::{Call, Function::*, word};
 use crate::norms::{block, even_direction, frobenius_norm, halvings, one_norm};
@@ -36,8 +37,18 @@ fn step<T: Width>() -> T {
     T::power(-(T::FRACTION as i32))
 }
 
+/// A pass of a root's iteration that moves less stops it.
+fn tolerance<T: Width>() -> T {
+    step::<T>() * T::of(100.0)
+}
+
+/// The matrix with this number on the diagonal, and +0 beside it: where it is infinite, too.
+fn diagonal<T: Width>(n: usize, x: T) -> Vec<T> {
+    (0..n * n).map(|k| if k / n == k % n { x } else { T::zero() }).collect()
+}
+
 fn identity<T: Width>(n: usize) -> Vec<T> {
-    (0..n * n).map(|k| if k / n == k % n { T::one() } else { T::zero() }).collect()
+    diagonal(n, T::one())
 }
 
 fn minus_identity<T: Width>(n: usize, a: &[T]) -> Vec<T> {
@@ -89,20 +100,9 @@ fn pade_parts<T: Width>(n: usize, a: &[T]) -> [Vec<T>; 2] {
     [numerator, denominator]
 }
 
-/// The logarithm of I + X by its series.
-fn series<T: Width>(n: usize, x: &[T]) -> Vec<T> {
-    let mut sum = entries(&vec![T::zero(); n * n], x, |zero, x| zero + x);
-    let mut power = x.to_vec();
-    for k in 2..=TERMS {
-        power = product(n, &power, x);
-        let coefficient = T::of(if k % 2 == 0 { -1.0 } else { 1.0 }) / T::of(k as f64);
-        let term: Vec<T> = power.iter().map(|x| coefficient * *x).collect();
-        sum = entries(&sum, &term, |x, y| x + y);
-        if frobenius_norm(&term) <= step::<T>() * frobenius_norm(&sum) {
-            break;
-        }
-    }
-    sum
+/// Whether the 1-norm of A - I exceeds 0.1, so that a logarithm takes a root first; a NaN column never wins.
+fn is_far<T: Width>(n: usize, a: &[T]) -> bool {
+    one_norm(n, &minus_identity(n, a)) > T::of(0.1)
 }
 
 /// The matrix of the Sylvester equation of S, of order n × n.
@@ -126,15 +126,38 @@ fn transposed<T: Width>(n: usize, a: &[T]) -> Vec<T> {
     (0..n * n).map(|k| a[k % n * n + k / n]).collect()
 }
 
-/// A run of the source's steps, with the smallest pivot of each factoring so far that succeeded. Where LU refuses a matrix that it must not, a step gives
-/// none.
-struct Run<T> {
-    factorings: Vec<T>,
+/// What an iteration is for.
+#[derive(Clone, Copy, Debug, PartialEq, Eq)]
+pub enum Part {
+    /// Denman and Beavers' passes for a square root.
+    Root,
+    /// Newton's passes for one root of a logarithm.
+    Newton,
+    /// All roots of a logarithm: no steps of its own, and settled where they left a matrix that is not far from the identity.
+    Rooting,
+    /// The terms of a logarithm's series, from term 2 on.
+    Series,
+}
+
+/// An iteration that ended: its steps, that in which its test stopped it among them, and whether it settled.
+#[derive(Clone, Copy, Debug, PartialEq, Eq)]
+pub struct Iteration {
+    pub part: Part,
+    pub steps: usize,
+    pub settled: bool,
+}
+
+/// A run of the source's steps, with the smallest pivot of each factoring so far that succeeded, and the iterations that ended, both in order. Where LU
+/// refuses a matrix that it must not, a step gives none.
+#[derive(Default)]
+pub struct Run<T> {
+    pub factorings: Vec<T>,
+    pub iterations: Vec<Iteration>,
 }
 
 impl<T: Width> Run<T> {
-    fn new() -> Run<T> {
-        Run { factorings: Vec::new() }
+    fn ended(&mut self, part: Part, steps: usize, settled: bool) {
+        self.iterations.push(Iteration { part, steps, settled });
     }
 
     fn factor(&mut self, n: usize, a: &[T]) -> Option<Lu<T>> {
@@ -185,26 +208,44 @@ impl<T: Width> Run<T> {
     fn newton(&mut self, n: usize, a: &[T]) -> Option<Vec<T>> {
         let trace = (0..n).fold(T::zero(), |sum, i| sum + a[i * n + i]);
         let scale = (trace / T::of(n as f64)).sqrt();
-        let mut x = multiple(&identity(n), if scale > step() { scale } else { T::one() });
-        for _ in 0..PASSES {
+        let mut x = diagonal(n, if scale > step() { scale } else { T::one() });
+        let (mut passes, mut settled) = (0, false);
+        while passes < PASSES && !settled {
             let next = mean(&x, &self.solve(n, &x, a)?);
-            let moved = distance(&x, &next);
+            settled = distance(&x, &next) < tolerance();
             x = next;
-            if moved < step::<T>() * T::of(100.0) {
-                break;
-            }
+            passes += 1;
         }
+        self.ended(Part::Newton, passes, settled);
         Some(x)
+    }
+
+    /// The logarithm of I + X by its series.
+    fn series(&mut self, n: usize, x: &[T]) -> Vec<T> {
+        let mut sum = entries(&vec![T::zero(); n * n], x, |zero, x| zero + x);
+        let mut power = x.to_vec();
+        let (mut k, mut settled) = (1, false);
+        while k < TERMS && !settled {
+            k += 1;
+            power = product(n, &power, x);
+            let coefficient = T::of(if k % 2 == 0 { -1.0 } else { 1.0 }) / T::of(k as f64);
+            let term: Vec<T> = power.iter().map(|x| coefficient * *x).collect();
+            sum = entries(&sum, &term, |x, y| x + y);
+            settled = frobenius_norm(&term) <= step::<T>() * frobenius_norm(&sum);
+        }
+        self.ended(Part::Series, k - 1, settled);
+        sum
     }
 
     fn logarithm(&mut self, n: usize, a: &[T]) -> Option<Vec<T>> {
         let mut work = a.to_vec();
         let mut roots = 0;
-        while roots < ROOTS && one_norm(n, &minus_identity(n, &work)) > T::of(0.1) {
+        while roots < ROOTS && is_far(n, &work) {
             work = self.newton(n, &work)?;
             roots += 1;
         }
-        Some(multiple(&series(n, &minus_identity(n, &work)), T::power(roots as i32)))
+        self.ended(Part::Rooting, 0, !is_far(n, &work));
+        Some(multiple(&self.series(n, &minus_identity(n, &work)), T::power(roots as i32)))
     }
 
     /// The logarithm of A, and the difference from that of A + h E over h, with the root of the machine step for h.
@@ -219,17 +260,17 @@ impl<T: Width> Run<T> {
     /// Denman and Beavers' iteration for a square root.
     fn square_root(&mut self, n: usize, a: &[T]) -> Option<Vec<T>> {
         let (mut y, mut z) = (a.to_vec(), identity(n));
-        for _ in 0..PASSES {
+        let (mut passes, mut settled) = (0, false);
+        while passes < PASSES && !settled {
             let inverse_z = self.inverse(n, &z)?;
             let inverse_y = self.inverse(n, &y)?;
             let next = mean(&y, &inverse_z);
             z = mean(&z, &inverse_y);
-            let moved = distance(&y, &next);
+            settled = distance(&y, &next) < tolerance();
             y = next;
-            if moved < step::<T>() * T::of(100.0) {
-                break;
-            }
+            passes += 1;
         }
+        self.ended(Part::Root, passes, settled);
         Some(y)
     }
 
@@ -290,22 +331,31 @@ fn factors<T: Width>(c: &Call<T>) -> bool {
     }
 }
 
-/// The smallest pivot of each factoring of a call's run that succeeded, in order. The source gives the call these outputs, or none where LU refuses a
-/// matrix. Ends the program where the repeated steps give anything else, every NaN as one value.
-pub fn factorings<T: Width>(c: &Call<T>, given: Option<&[Vec<T>; 2]>) -> Vec<T> {
-    if !factors(c) {
-        return Vec::new();
+/// A call's run; where the call factors nothing it is empty. The source gives the call these outputs, or none where LU refuses a matrix. Ends the program
+/// where the repeated steps give anything else, every NaN as one value.
+pub fn repeated<T: Width>(c: &Call<T>, given: Option<&[Vec<T>; 2]>) -> Run<T> {
+    let mut run = Run::default();
+    if factors(c) {
+        let words = |x: &[Vec<T>; 2]| x.each_ref().map(|x| x.iter().map(|x| word(*x)).collect::<Vec<u64>>());
+        let outputs = run.outputs(c);
+        assert_eq!(outputs.as_ref().map(words), given.map(words), "the repeated steps are not the source's: {c:?}");
     }
-    let words = |outputs: &[Vec<T>; 2]| outputs.each_ref().map(|x| x.iter().map(|x| word(*x)).collect::<Vec<u64>>());
-    let mut run = Run::new();
-    let repeated = run.outputs(c);
-    assert_eq!(repeated.as_ref().map(words), given.map(words), "the repeated steps are not the source's: {c:?}");
-    run.factorings
+    run
 }
 
 /// The smallest pivot of all these factorings; in f32 it is widened.
 pub fn smallest<T: Width>(factorings: &[T]) -> f64 {
     factorings.iter().fold(T::infinity(), |least, x| smaller(*x, least)).wide()
+}
+
+/// The steps of all these iterations.
+pub fn steps(iterations: &[Iteration]) -> usize {
+    iterations.iter().map(|x| x.steps).sum()
+}
+
+/// Whether all these iterations settled; where there is none they did.
+pub fn settled(iterations: &[Iteration]) -> bool {
+    iterations.iter().all(|x| x.settled)
 }
 
 #[cfg(test)]
@@ -331,7 +381,7 @@ mod tests {
     /// Where the numerator stands in for the approximant, nothing is added.
     fn stands_in<T: Width>() {
         let a = refused_denominator::<T>();
-        let mut run = Run::new();
+        let mut run = Run::default();
         let approximant = run.pade(2, &a);
         assert_eq!((approximant, run.factorings.len()), (pade_parts(2, &a)[0].clone(), 0));
         assert_eq!(smallest(&run.factorings), f64::INFINITY);
