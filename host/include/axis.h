@@ -9,6 +9,21 @@
 #define AXIS_OUTPUT_LENGTH 35500
 #define AXIS_SHEET_LENGTH 4708
 
+/* The codes of tasks. The index of a task names an exponent for AXIS_POWM, a direction for the four derivatives, and is 0 otherwise. */
+enum axis_code {
+    AXIS_EXPM = 0,
+    AXIS_LOGM = 1,
+    AXIS_SQRTM = 2,
+    AXIS_POWM = 3,
+    AXIS_COSM = 4,
+    AXIS_SINM = 5,
+    AXIS_FRECHET_EXPM = 6,
+    AXIS_FRECHET_LOGM = 7,
+    AXIS_FRECHET_SQRTM = 8,
+    AXIS_COND_EXPM = 9,
+    AXIS_FRECHET_SQRTM_SYLVESTER = 10
+};
+
 #ifdef __cplusplus
 extern "C" {
 #endif

@@ -10,6 +10,7 @@ pub use functions_logarithms32::frechet_logm;
 pub use functions_logarithms32::logm;
 pub use functions_powers32::powm;
 pub use functions_roots32::frechet_sqrtm;
+pub use functions_roots32::frechet_sqrtm_sylvester;
 pub use functions_roots32::sqrtm;
 pub use functions_trigonometric32::cosm;
 pub use functions_trigonometric32::sinm;

@@ -8,7 +8,7 @@ use Rattle.functions_definitions.specs.Powers.{expM, wholePower, fractio
 use Rattle.functions_definitions.proofs.HalvingLaws.{halvings-late}
 use Rattle.functions_definitions.specs.Exponential.{exponential, block}
 use Rattle.arithmetic_questions.specs.Result.{Result, refused, done, _>>=_}
-use Rattle.functions_definitions.specs.Derivatives.{frechetExpM, blockQuarters, unitDirection, conditioned, condExpM, logStep, secondLogarithm, frechetLogM, sylvesterMatrix, columnDivision, sylvester, scalarDerivative, rootDerivative, frechetSqrtM}
+use Rattle.functions_definitions.specs.Derivatives.{frechetExpM, blockQuarters, unitDirection, conditioned, condExpM, logStep, secondLogarithm, frechetLogM, sylvesterMatrix, columnDivision, sylvester, scalarDerivative, rootDerivative, rootWithDerivative}
 use Rattle.arithmetic_questions.specs.Outputs.{Both}
 use native.Mathlib.Omega.{arith}
 use mathlib.Core.Bool.{Bool, true, false, cond}
@@ -72,23 +72,24 @@ unfolding frechetLogM secondLogarithm
 late-frechet-logarithm f n a e =
     late-bind (logarithm f n a) _ (late-logarithm f n a) (λ l. late-bind (logarithm f n (addMultipleM f n (logStep f) e a)) _ (late-logarithm f n (addMultipleM f n (logStep f) e a)) (λ m. tt))
 
-late-sylvester : (f : Format) (n : ℕ) (s e : List Float) → Late (sylvester f n s e)
+late-sylvester : (f : Format) (n : ℕ) (s t e : List Float) → Late (sylvester f n s t e)
 unfolding sylvester
-late-sylvester f n s e =
-    let x = columnDivision f (n * n) (sylvesterMatrix f n s) (transposeM n e) in
+late-sylvester f n s t e =
+    let x = columnDivision f (n * n) (sylvesterMatrix f n s t) (transposeM n e) in
     late-bind (orNotConverged x) (λ v. done 0 (transposeM n v)) (late-solution x) (λ v. tt)
 
-late-derivative : (f : Format) (n : ℕ) (s e : List Float) → Late (rootDerivative f n s e)
+late-derivative : (f : Format) (n : ℕ) (s t e : List Float) → Late (rootDerivative f n s t e)
 unfolding rootDerivative
-late-derivative f n s e = go (eqb n 1)
+late-derivative f n s t e = go (eqb n 1)
   where
-    go : (b : Bool) → Late (cond b (done 0 (scalarDerivative f (item s 0) (item e 0) ∷ [])) (sylvester f n s e))
+    go : (b : Bool) → Late (cond b (done 0 (scalarDerivative f (item s 0) (item e 0) ∷ [])) (sylvester f n s t e))
     go true = tt
-    go false = late-sylvester f n s e
+    go false = late-sylvester f n s t e
 
-pub late-frechet-root : (f : Format) (n : ℕ) (a e : List Float) → Late (frechetSqrtM f n a e)
-unfolding frechetSqrtM
-late-frechet-root f n a e = late-bind (squareRoot f n a) _ (late-root f n a) (λ s. late-bind (rootDerivative f n s e) _ (late-derivative f n s e) (λ x. tt))
+pub late-root-derivative : (f : Format) (n : ℕ) (second : List Float → List Float) (a e : List Float) → Late (rootWithDerivative f n second a e)
+unfolding rootWithDerivative
+late-root-derivative f n second a e =
+    late-bind (squareRoot f n a) _ (late-root f n a) (λ s. late-bind (rootDerivative f n s (second s) e) _ (late-derivative f n s (second s) e) (λ x. tt))
 
 late-whole : (f : Format) (n : ℕ) (a : List Float) (e : ℤ) → Late (wholePower f n a e)
 unfolding wholePower

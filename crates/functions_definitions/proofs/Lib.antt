@@ -5,3 +5,4 @@ pub mod LateLaws
 pub mod IterateLaws
 pub mod GatheredLaws
 pub mod StepLaws
+pub mod SymmetricLaws

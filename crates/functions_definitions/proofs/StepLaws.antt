@@ -70,9 +70,9 @@ module _ (f : Format) (n : ℕ) where
   unfolding rootReport
   root-few a = either-few (eqb n 1) nothing (iterationReport (pairReport f n) (denmanBeavers f n a) passLimit) passLimit (omega arith) (iteration-few (denmanBeavers f n a) (pairReport f n) passLimit pair-few)
 
-  pub derivative-few : (s : List Float) → (rootDerivativeReport f n s) .steps ≤ 0
+  pub derivative-few : (s t : List Float) → (rootDerivativeReport f n s t) .steps ≤ 0
   unfolding rootDerivativeReport luReport
-  derivative-few s = either-few (eqb n 1) nothing (luReport f (n * n) (sylvesterMatrix f n s)) 0 (omega arith) (omega arith)
+  derivative-few s t = either-few (eqb n 1) nothing (luReport f (n * n) (sylvesterMatrix f n s t)) 0 (omega arith) (omega arith)
 
   rooting-few : (w : List Float) → (rootingReport f n w) .steps ≤ passLimit
   unfolding rootingReport newtonReport

@@ -9,7 +9,7 @@ use Rattle.functions_definitions.specs.Roots.{squareRoot}
 use Rattle.functions_definitions.specs.Logarithm.{logarithm}
 use Rattle.functions_definitions.specs.Powers.{expM, powerM}
 use Rattle.functions_definitions.specs.Trigonometric.{cosM, sinM}
-use Rattle.functions_definitions.specs.Derivatives.{Condition, frechetExpM, frechetLogM, frechetSqrtM, condExpM}
+use Rattle.functions_definitions.specs.Derivatives.{Condition, frechetExpM, frechetLogM, frechetSqrtM, frechetSqrtSylvesterM, condExpM}
 use Rattle.functions_definitions.specs.Kronecker.{kronM, kronSumM}
 
 -- ---- functions of a matrix: rows, columns, the matrix, the lengths of output and workspace
@@ -47,6 +47,10 @@ module _ (f : Format) (r c : ℕ) (a : List Float) (r' c' : ℕ) (e : List Float
 
   unfoldable pub frechetSqrtm : Result Both
   frechetSqrtm = answer ofFrechetSqrtm (binary r c a r' c' e (out ∷ out' ∷ []) w) (frechetSqrtM f r a e)
+
+  -- the questions of frechet_sqrtm
+  unfoldable pub frechetSqrtmSylvester : Result Both
+  frechetSqrtmSylvester = answer ofFrechetSqrtm (binary r c a r' c' e (out ∷ out' ∷ []) w) (frechetSqrtSylvesterM f r a e)
 
 -- ---- Kronecker
 unfoldable pub kron : Format → ℕ → ℕ → List Float → ℕ → ℕ → List Float → ℕ → Result (List Float)

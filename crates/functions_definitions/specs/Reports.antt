@@ -7,7 +7,7 @@ use lib.Dec.{eqb}
 use lib.Ieee.{Float, Format, binary64}
 use Rattle.arithmetic_floats.specs.Float.{halvings, integerOf}
 use Rattle.arithmetic_matrices.specs.Norm.{norm1}
-use Rattle.arithmetic_matrices.specs.Product.{timesM, addMultipleM, minusIdentityM}
+use Rattle.arithmetic_matrices.specs.Product.{timesM, addMultipleM, minusIdentityM, transposeM}
 use Rattle.arithmetic_questions.specs.Result.{Result, exit}
 use Rattle.arithmetic_questions.specs.Reports.{nothing, factored, iterated, beside, refusedReport}
 use Rattle.arithmetic_questions.specs.declared.answer.Report.{Report}
@@ -62,13 +62,21 @@ pairReport f n p = beside (luReport f n (p .z)) (luReport f n (p .y))
 unfoldable pub rootReport : Format → ℕ → List Float → Report
 rootReport f n a = cond (eqb n 1) nothing (iterationReport (pairReport f n) (denmanBeavers f n a) passLimit)
 
--- the derivative at the root s: one factoring, of the system's matrix
-unfoldable pub rootDerivativeReport : Format → ℕ → List Float → Report
-rootDerivativeReport f n s = cond (eqb n 1) nothing (luReport f (n * n) (sylvesterMatrix f n s))
+-- the derivative at the root s, by the system of s and t: one factoring, of the system's matrix
+unfoldable pub rootDerivativeReport : Format → ℕ → List Float → List Float → Report
+rootDerivativeReport f n s t = cond (eqb n 1) nothing (luReport f (n * n) (sylvesterMatrix f n s t))
+
+-- the root S and its derivative, where T is `second` of S
+unfoldable pub rootWithDerivativeReport : Format → ℕ → (List Float → List Float) → List Float → Report
+rootWithDerivativeReport f n second a = followed (squareRoot f n a) (rootReport f n a) (λ s. rootDerivativeReport f n s (second s))
 
 -- frechet_sqrtm
 unfoldable pub frechetSqrtReport : Format → ℕ → List Float → Report
-frechetSqrtReport f n a = followed (squareRoot f n a) (rootReport f n a) (rootDerivativeReport f n)
+frechetSqrtReport f n a = rootWithDerivativeReport f n (λ s. s) a
+
+-- frechet_sqrtm_sylvester
+unfoldable pub frechetSqrtSylvesterReport : Format → ℕ → List Float → Report
+frechetSqrtSylvesterReport f n a = rootWithDerivativeReport f n (transposeM n) a
 
 -- ---- the logarithm: Newton factors x in each pass, for each root that is taken
 

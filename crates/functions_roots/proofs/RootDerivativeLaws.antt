@@ -1,4 +1,4 @@
--- Laws of the Sylvester system in a workspace, and of the derivative of the square root. Assumes nothing.
+-- Laws of the Sylvester system in a workspace, and of the derivatives of the square root. `second` of S is T. Assumes nothing.
 use Prim.Native.Nat.{ℕ, _+_, _-_, _*_, _≤_, _<_}
 use native.Mathlib.Nat.{mul-le-mul, mul-one}
 use native.Mathlib.Omega.{arith}
@@ -39,22 +39,23 @@ use Rattle.lu_factoring.proofs.LuLaws.{length-luAt}
 use Rattle.lu_factoring.proofs.SolveLaws.{length-permuted, length-forward, length-back}
 use Rattle.lu_factoring.proofs.DivisionLaws.{length-solvedMatrix}
 use Rattle.functions_definitions.specs.Roots.{orNotConverged, squareRoot}
-use Rattle.functions_definitions.specs.Derivatives.{sylvesterMatrix, columnDivision, sylvester, scalarDerivative, rootDerivative, frechetSqrtM}
-use Rattle.functions_definitions.specs.Reports.{luReport, rootReport, rootDerivativeReport, frechetSqrtReport}
+use Rattle.functions_definitions.specs.Derivatives.{sylvesterMatrix, columnDivision, sylvester, scalarDerivative, rootDerivative, rootWithDerivative}
+use Rattle.functions_definitions.specs.Reports.{luReport, rootReport, rootDerivativeReport, rootWithDerivativeReport}
 use Rattle.functions_definitions.proofs.GatheredLaws.{followed-as}
 use Rattle.functions_roots.specs.Kernels.{systemSlots, SystemSolved, whereAccepted, derivedSlots, Derived}
 
 -- ---- the system is written
 
-length-sylvesterMatrix : (f : Format) (n : ℕ) (s : List Float) → length (sylvesterMatrix f n s) ≡ n * n * (n * n)
+length-sylvesterMatrix : (f : Format) (n : ℕ) (s t : List Float) → length (sylvesterMatrix f n s t) ≡ n * n * (n * n)
 unfolding sylvesterMatrix
-length-sylvesterMatrix f n s = length-grid (n * n) (n * n) _
+length-sylvesterMatrix f n s t = length-grid (n * n) (n * n) _
 
-pub system-filled : (f : Format) (n : ℕ) (w s m : List Float) → n * n ≤ 64 → 8192 ≤ length w → s ≡ part w 0 (n * n) → m ≡ sylvesterMatrix f n s
-    → putMid 2048 (2048 + n * n * (n * n) - 2048) w m ≡ store w 8 (sylvesterMatrix f n (slot n w 0))
+pub system-filled : (f : Format) (n : ℕ) (second : List Float → List Float) (w s m : List Float) → n * n ≤ 64 → 8192 ≤ length w → s ≡ part w 0 (n * n) → m ≡ sylvesterMatrix f n s (second s)
+    → putMid 2048 (2048 + n * n * (n * n) - 2048) w m ≡ store w 8 (sylvesterMatrix f n (slot n w 0) (second (slot n w 0)))
 unfolding store slot
-system-filled f n w s m h room es em =
-    returned w m 2048 (n * n * (n * n)) (ap length em ∙ length-sylvesterMatrix f n s) (omega (arith, mul-le-mul h h)) ∙ ap (put w 2048) (em ∙ ap (sylvesterMatrix f n) es)
+system-filled f n second w s m h room es em =
+    returned w m 2048 (n * n * (n * n)) (ap length em ∙ length-sylvesterMatrix f n s (second s)) (omega (arith, mul-le-mul h h))
+    ∙ ap (put w 2048) (em ∙ ap (λ (v : List Float). sylvesterMatrix f n v (second v)) es)
 
 -- ---- one right-hand column is its own matrix
 
@@ -123,24 +124,24 @@ module _ (f : Format) (n : ℕ) (w : List Float) (h : n * n ≤ 64) (room : 8192
 
 -- ---- the derivative
 
-module _ (f : Format) (n : ℕ) (w₀ : List Float) (r : Room n w₀) where
-  module _ (w1 w2 w3 : List Float) (o : LuOutcome) (h : n * n ≤ 64) (e1 : w1 ≡ store w₀ 8 (sylvesterMatrix f n (slot n w₀ 0))) (e2 : w2 ≡ store w1 7 (transposeM n (slot n w1 6))) (Q : SystemSolved f n o w2 w3) where
+module _ (f : Format) (n : ℕ) (second : List Float → List Float) (w₀ : List Float) (r : Room n w₀) where
+  module _ (w1 w2 w3 : List Float) (o : LuOutcome) (h : n * n ≤ 64) (e1 : w1 ≡ store w₀ 8 (sylvesterMatrix f n (slot n w₀ 0) (second (slot n w₀ 0)))) (e2 : w2 ≡ store w1 7 (transposeM n (slot n w1 6))) (Q : SystemSolved f n o w2 w3) where
     matrix : Held
-    matrix = record { order = n * n; span = 16; entries = sylvesterMatrix f n (slot n w₀ 0) }
+    matrix = record { order = n * n; span = 16; entries = sylvesterMatrix f n (slot n w₀ 0) (second (slot n w₀ 0)) }
 
     -- what the definition makes of LU's answer
     answered : Option (List Float) → Result (List Float)
     answered z = orNotConverged z >>= λ x. done 0 (transposeM n x)
 
-    solution : (answered (whereFactored o (slot n w3 7)) ≡ sylvester f n (slot n w₀ 0) (slot n w₀ 6)) × Only (member derivedSlots) w₀ w3 × (slot (n * n) w2 8 ≡ sylvesterMatrix f n (slot n w₀ 0))
+    solution : (answered (whereFactored o (slot n w3 7)) ≡ sylvester f n (slot n w₀ 0) (second (slot n w₀ 0)) (slot n w₀ 6)) × Only (member derivedSlots) w₀ w3 × (slot (n * n) w2 8 ≡ sylvesterMatrix f n (slot n w₀ 0) (second (slot n w₀ 0)))
     unfolding sylvester answered matrix
     solution =
-        let s1 = step-store 8 (sylvesterMatrix f n (slot n w₀ 0)) matrix (start (member derivedSlots) n r) e1 refl (length-sylvesterMatrix f n (slot n w₀ 0)) (omega (arith, mul-le-mul h h)) refl refl in
+        let s1 = step-store 8 (sylvesterMatrix f n (slot n w₀ 0) (second (slot n w₀ 0))) matrix (start (member derivedSlots) n r) e1 refl (length-sylvesterMatrix f n (slot n w₀ 0) (second (slot n w₀ 0))) (omega (arith, mul-le-mul h h)) refl refl in
         let s2 = step-transpose n (r .order) 6 7 s1 e2 refl refl refl in
         let s3 = step-call systemSlots s2 (Q .only) (member-among (member derivedSlots) systemSlots refl) in
         (ap (λ (z : Option (List Float)). orNotConverged z >>= λ x. done 0 (transposeM n x)) (Q .result ∙ (λ i. columnDivision f (n * n) (held-at 8 (n * n) s2 refl i) (held-at 7 n s2 refl i))), s3 .only, held-at 8 (n * n) s2 refl)
 
-    pub sylvester-solved : (w4 : List Float) → o ≡ Factored → w4 ≡ store w3 1 (transposeM n (slot n w3 7)) → Derived n (sylvester f n (slot n w₀ 0) (slot n w₀ 6)) true w₀ w4
+    pub sylvester-solved : (w4 : List Float) → o ≡ Factored → w4 ≡ store w3 1 (transposeM n (slot n w3 7)) → Derived n (sylvester f n (slot n w₀ 0) (second (slot n w₀ 0)) (slot n w₀ 6)) true w₀ w4
     unfolding answered _>>=_
     sylvester-solved w4 eo e4 =
         let r3 : Room n w3 = record { order = r .order; space = rw (solution .1 .long) (r .space) } in
@@ -151,36 +152,36 @@ module _ (f : Format) (n : ℕ) (w₀ : List Float) (r : Room n w₀) where
         }
 
     -- one factoring, of the system's matrix
-    pub sylvester-reported : (v : Float) (ρ : Report) → v ≡ smallestPivot f (n * n) (slot (n * n) w2 8) → ρ ≡ factored v → ρ ≡ luReport f (n * n) (sylvesterMatrix f n (slot n w₀ 0))
+    pub sylvester-reported : (v : Float) (ρ : Report) → v ≡ smallestPivot f (n * n) (slot (n * n) w2 8) → ρ ≡ factored v → ρ ≡ luReport f (n * n) (sylvesterMatrix f n (slot n w₀ 0) (second (slot n w₀ 0)))
     unfolding luReport
     sylvester-reported v ρ ev e = e ∙ ap factored (ev ∙ ap (smallestPivot f (n * n)) (solution .2))
 
-    pub sylvester-refused : (k : ℕ) → o ≡ Singular k → Derived n (sylvester f n (slot n w₀ 0) (slot n w₀ 6)) false w₀ w3
+    pub sylvester-refused : (k : ℕ) → o ≡ Singular k → Derived n (sylvester f n (slot n w₀ 0) (second (slot n w₀ 0)) (slot n w₀ 6)) false w₀ w3
     unfolding answered _>>=_
     sylvester-refused k eo = record { result = ap (λ (z : LuOutcome). answered (whereFactored z (slot n w3 7))) (sym eo) ∙ solution .0; only = solution .1 }
 
   -- at order 1, and above
 
-  number : (v : Float) (w1 : List Float) → v ≡ scalarDerivative f (item w₀ 0) (item w₀ 1536) → w1 ≡ set w₀ 256 v → Derived 1 (rootDerivative f 1 (slot 1 w₀ 0) (slot 1 w₀ 6)) true w₀ w1
+  number : (v : Float) (w1 : List Float) → v ≡ scalarDerivative f (item w₀ 0) (item w₀ 1536) → w1 ≡ set w₀ 256 v → Derived 1 (rootDerivative f 1 (slot 1 w₀ 0) (second (slot 1 w₀ 0)) (slot 1 w₀ 6)) true w₀ w1
   unfolding rootDerivative slot part tab store put
   number v w1 ev ew = record {
     result = ap (done 0) (ap (λ (w : List Float). slot 1 w 1) ew ∙ slot-store 1 w₀ 1 (v ∷ []) refl (omega (arith, r .space)) ∙ ap (λ (x : Float). x ∷ []) ev);
     only = rw ew (only-store (member derivedSlots) w₀ 1 (v ∷ []) refl (omega arith));
   }
 
-  pub derived-number : (v : Float) (w1 : List Float) → n ≡ 1 → v ≡ scalarDerivative f (item w₀ 0) (item w₀ 1536) → w1 ≡ set w₀ 256 v → Derived n (rootDerivative f n (slot n w₀ 0) (slot n w₀ 6)) true w₀ w1
+  pub derived-number : (v : Float) (w1 : List Float) → n ≡ 1 → v ≡ scalarDerivative f (item w₀ 0) (item w₀ 1536) → w1 ≡ set w₀ 256 v → Derived n (rootDerivative f n (slot n w₀ 0) (second (slot n w₀ 0)) (slot n w₀ 6)) true w₀ w1
   derived-number v w1 e ev ew = rw e (number v w1 ev ew)
 
-  pub derived-above : (b : Bool) (w1 : List Float) → (n ≡ 1 → ⊥) → Derived n (sylvester f n (slot n w₀ 0) (slot n w₀ 6)) b w₀ w1 → Derived n (rootDerivative f n (slot n w₀ 0) (slot n w₀ 6)) b w₀ w1
+  pub derived-above : (b : Bool) (w1 : List Float) → (n ≡ 1 → ⊥) → Derived n (sylvester f n (slot n w₀ 0) (second (slot n w₀ 0)) (slot n w₀ 6)) b w₀ w1 → Derived n (rootDerivative f n (slot n w₀ 0) (second (slot n w₀ 0)) (slot n w₀ 6)) b w₀ w1
   unfolding rootDerivative
   derived-above b w1 h D = rw (ne-eqb n 1 h) D
 
   -- at order 1 nothing is factored
-  pub derived-none : (ρ : Report) → n ≡ 1 → ρ ≡ nothing → ρ ≡ rootDerivativeReport f n (slot n w₀ 0)
+  pub derived-none : (ρ : Report) → n ≡ 1 → ρ ≡ nothing → ρ ≡ rootDerivativeReport f n (slot n w₀ 0) (second (slot n w₀ 0))
   unfolding rootDerivativeReport
   derived-none ρ e h = rw e h
 
-  pub derived-system : (ρ : Report) → (n ≡ 1 → ⊥) → ρ ≡ luReport f (n * n) (sylvesterMatrix f n (slot n w₀ 0)) → ρ ≡ rootDerivativeReport f n (slot n w₀ 0)
+  pub derived-system : (ρ : Report) → (n ≡ 1 → ⊥) → ρ ≡ luReport f (n * n) (sylvesterMatrix f n (slot n w₀ 0) (second (slot n w₀ 0))) → ρ ≡ rootDerivativeReport f n (slot n w₀ 0) (second (slot n w₀ 0))
   unfolding rootDerivativeReport
   derived-system ρ e h = rw (ne-eqb n 1 e) h
 
@@ -192,25 +193,25 @@ rootSlots = 0 ∷ 1 ∷ 2 ∷ 3 ∷ 4 ∷ 5 ∷ []
 abbrev pub bothSlots : List ℕ
 bothSlots = 0 ∷ 2 ∷ 3 ∷ 4 ∷ 5 ∷ derivedSlots
 
-module _ (f : Format) (n : ℕ) (w₀ : List Float) (r : Room n w₀) (w1 : List Float) (o : Outcome) (R : Replaced rootSlots n (squareRoot f n (slot n w₀ 0)) o w₀ w1) where
+module _ (f : Format) (n : ℕ) (second : List Float → List Float) (w₀ : List Float) (r : Room n w₀) (w1 : List Float) (o : Outcome) (R : Replaced rootSlots n (squareRoot f n (slot n w₀ 0)) o w₀ w1) where
   wide : Only (member bothSlots) w₀ w1
   wide = only-more (member-among (member bothSlots) rootSlots refl) (R .only)
 
-  pub root-refused-both : (p : Outcome) (y : Refusal) → o ≡ Refused y → reported p ≡ numbered y → ReplacedBoth bothSlots n (frechetSqrtM f n (slot n w₀ 0) (slot n w₀ 6)) p w₀ w1
-  unfolding frechetSqrtM
+  pub root-refused-both : (p : Outcome) (y : Refusal) → o ≡ Refused y → reported p ≡ numbered y → ReplacedBoth bothSlots n (rootWithDerivative f n second (slot n w₀ 0) (slot n w₀ 6)) p w₀ w1
+  unfolding rootWithDerivative
   root-refused-both p y e ep = both-refused (squareRoot f n (slot n w₀ 0)) _ bothSlots n o p y w₀ w1 (R .outcome) e ep wide
 
-  module _ (s : ℕ) (b : Bool) (w2 : List Float) (eo : o ≡ Done s) (D : Derived n (rootDerivative f n (slot n w1 0) (slot n w1 6)) b w1 w2) where
+  module _ (s : ℕ) (b : Bool) (w2 : List Float) (eo : o ≡ Done s) (D : Derived n (rootDerivative f n (slot n w1 0) (second (slot n w1 0)) (slot n w1 6)) b w1 w2) where
     -- what follows the root
     follows : List Float → Result Both
-    follows v = rootDerivative f n v (slot n w₀ 6) >>= λ x. done 0 (record { value = v; derivative = x })
+    follows v = rootDerivative f n v (second v) (slot n w₀ 6) >>= λ x. done 0 (record { value = v; derivative = x })
 
     few : n * n ≤ 256 * 1
     few = omega (arith, square-le n (r .order))
 
     -- the derivative is the definition's
-    made : whereAccepted b (slot n w2 1) ≡ rootDerivative f n (slot n w1 0) (slot n w₀ 6)
-    made = D .result ∙ ap (rootDerivative f n (slot n w1 0)) (slot-only n (member rootSlots) w₀ w1 6 1 (R .only) few refl)
+    made : whereAccepted b (slot n w2 1) ≡ rootDerivative f n (slot n w1 0) (second (slot n w1 0)) (slot n w₀ 6)
+    made = D .result ∙ ap (rootDerivative f n (slot n w1 0) (second (slot n w1 0))) (slot-only n (member rootSlots) w₀ w1 6 1 (R .only) few refl)
 
     kept : slot n w2 0 ≡ slot n w1 0
     kept = slot-only n (member derivedSlots) w1 w2 0 1 (D .only) few refl
@@ -218,27 +219,27 @@ module _ (f : Format) (n : ℕ) (w₀ : List Float) (r : Room n w₀) (w1 : List
     narrow : Only (member bothSlots) w1 w2
     narrow = only-more (member-among (member bothSlots) derivedSlots refl) (D .only)
 
-    after-root : (p : Outcome) → ReplacedBoth bothSlots n (follows (slot n w1 0)) p w1 w2 → ReplacedBoth bothSlots n (frechetSqrtM f n (slot n w₀ 0) (slot n w₀ 6)) p w₀ w2
-    unfolding frechetSqrtM follows
+    after-root : (p : Outcome) → ReplacedBoth bothSlots n (follows (slot n w1 0)) p w1 w2 → ReplacedBoth bothSlots n (rootWithDerivative f n second (slot n w₀ 0) (slot n w₀ 6)) p w₀ w2
+    unfolding rootWithDerivative follows
     after-root p S = both-follows (squareRoot f n (slot n w₀ 0)) follows (slot n w1 0) s n bothSlots p w₀ w1 w2 (call-done (squareRoot f n (slot n w₀ 0)) o (slot n w1 0) s (R .outcome) (R .result) eo) wide S
 
-    pub derivative-done : b ≡ true → ReplacedBoth bothSlots n (frechetSqrtM f n (slot n w₀ 0) (slot n w₀ 6)) (Done 0) w₀ w2
+    pub derivative-done : b ≡ true → ReplacedBoth bothSlots n (rootWithDerivative f n second (slot n w₀ 0) (slot n w₀ 6)) (Done 0) w₀ w2
     unfolding follows _>>=_ outcome exit
     derivative-done e =
-        let x : rootDerivative f n (slot n w1 0) (slot n w₀ 6) ≡ done 0 (slot n w2 1) = sym (ap (λ (z : Bool). whereAccepted z (slot n w2 1)) (sym e) ∙ made) in
+        let x : rootDerivative f n (slot n w1 0) (second (slot n w1 0)) (slot n w₀ 6) ≡ done 0 (slot n w2 1) = sym (ap (λ (z : Bool). whereAccepted z (slot n w2 1)) (sym e) ∙ made) in
         after-root (Done 0) (rw x (record { outcome = refl; value = kept; derivative = refl; only = narrow }))
 
-    pub derivative-refused : (p : Outcome) → b ≡ false → reported p ≡ refused 13 0 0 → ReplacedBoth bothSlots n (frechetSqrtM f n (slot n w₀ 0) (slot n w₀ 6)) p w₀ w2
+    pub derivative-refused : (p : Outcome) → b ≡ false → reported p ≡ refused 13 0 0 → ReplacedBoth bothSlots n (rootWithDerivative f n second (slot n w₀ 0) (slot n w₀ 6)) p w₀ w2
     unfolding follows _>>=_ outcome exit
     derivative-refused p e ep =
-        let x : rootDerivative f n (slot n w1 0) (slot n w₀ 6) ≡ refused 13 0 0 = sym (ap (λ (z : Bool). whereAccepted z (slot n w2 1)) (sym e) ∙ made) in
+        let x : rootDerivative f n (slot n w1 0) (second (slot n w1 0)) (slot n w₀ 6) ≡ refused 13 0 0 = sym (ap (λ (z : Bool). whereAccepted z (slot n w2 1)) (sym e) ∙ made) in
         after-root p (rw x (record { outcome = ep; value = refl; derivative = refl; only = narrow }))
 
     -- the root reports ρ₁ and the derivative ρ₂
-    pub derivative-reported : (ρ₁ ρ₂ ρ : Report) → ρ₁ ≡ reportAt (squareRoot f n (slot n w₀ 0)) (rootReport f n (slot n w₀ 0)) → ρ₂ ≡ rootDerivativeReport f n (slot n w1 0) → ρ ≡ beside ρ₁ ρ₂
-        → ρ ≡ frechetSqrtReport f n (slot n w₀ 0)
-    unfolding frechetSqrtReport
+    pub derivative-reported : (ρ₁ ρ₂ ρ : Report) → ρ₁ ≡ reportAt (squareRoot f n (slot n w₀ 0)) (rootReport f n (slot n w₀ 0)) → ρ₂ ≡ rootDerivativeReport f n (slot n w1 0) (second (slot n w1 0)) → ρ ≡ beside ρ₁ ρ₂
+        → ρ ≡ rootWithDerivativeReport f n second (slot n w₀ 0)
+    unfolding rootWithDerivativeReport
     derivative-reported ρ₁ ρ₂ ρ e₁ e₂ e =
         let a = report-of (squareRoot f n (slot n w₀ 0)) (rootReport f n (slot n w₀ 0)) ρ₁ o s eo (R .outcome) e₁ in
         e ∙ (λ i. beside (a i) (e₂ i))
-        ∙ sym (followed-as (squareRoot f n (slot n w₀ 0)) (rootReport f n (slot n w₀ 0)) (rootDerivativeReport f n) s (slot n w1 0) (sym (ap reported eo) ∙ R .outcome) (R .result))
+        ∙ sym (followed-as (squareRoot f n (slot n w₀ 0)) (rootReport f n (slot n w₀ 0)) (λ v. rootDerivativeReport f n v (second v)) s (slot n w1 0) (sym (ap reported eo) ∙ R .outcome) (R .result))

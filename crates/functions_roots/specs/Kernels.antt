@@ -1,21 +1,24 @@
 -- A pass of the code as a step of a definition, and what the parts of the root and of its derivative leave in a workspace. Only the contracts of kernels cite it. Definitions only.
 use Prim.Native.Nat.{ℕ, _*_, _≤_}
 use mathlib.Core.Path.{_≡_}
-use mathlib.Core.Bool.{Bool, true, false}
+use mathlib.Core.Bool.{Bool, true, false, cond}
 use mathlib.Core.List.{List, [], _∷_}
 use mathlib.Core.Option.{some}
 use lib.Ieee.{Float, Format}
+use Rattle.arithmetic_matrices.specs.Product.{transposeM}
 use Rattle.arithmetic_matrices.specs.Workspace.{slot, member, Only}
 use Rattle.lu_factoring.specs.declared.LuOutcome.{LuOutcome}
 use Rattle.lu_factoring.specs.Solve.{division, inverse, whereFactored}
 use Rattle.functions_definitions.specs.Iterate.{Step, running, stopped, failed, after}
 use Rattle.functions_definitions.specs.Roots.{passLimit, newtonNext, newton, Pair, denmanBeaversNext}
-use Rattle.functions_definitions.specs.Derivatives.{columnDivision}
+use Rattle.functions_definitions.specs.Derivatives.{columnDivision, rootWithDerivative}
 use Rattle.functions_definitions.specs.Reports.{iterationReport}
 use Rattle.functions_roots.specs.declared.pass.Pass.{Pass}
 use Rattle.functions_roots.specs.declared.pass.Passed.{Passed}
 use Rattle.functions_roots.specs.declared.pass.Pass.the-variants.{Running, Stopped, Failed}
 use Rattle.arithmetic_questions.specs.Result.{Result, refused, done}
+use Rattle.arithmetic_questions.specs.Questions.{answer, binary, ofFrechetSqrtm}
+use Rattle.arithmetic_questions.specs.Outputs.{Both}
 use Rattle.arithmetic_questions.specs.declared.answer.Report.{Report}
 
 -- ---- the passes of an iteration
@@ -98,6 +101,14 @@ pub record SecondInverse (f : Format) (n : ℕ) (r : Pass) (w w′ : List Float)
   pub only : Only (member (0 ∷ 1 ∷ 2 ∷ 4 ∷ 5 ∷ [])) w w′
 
 -- ---- the derivative of the root: it goes to slot 1; the system of order n * n stands from slot 8 on, its right-hand column in slot 7
+
+-- T of the system S X + X T' = E: S, or its transpose
+abbrev pub secondOf : Bool → ℕ → List Float → List Float
+secondOf transposed n s = cond transposed (transposeM n s) s
+
+-- the call of either derivative: both ask the same questions
+abbrev pub derivativeCall : Format → Bool → ℕ → ℕ → List Float → ℕ → ℕ → List Float → ℕ → ℕ → ℕ → Result Both
+derivativeCall f transposed r c a r' c' e out out' w = answer ofFrechetSqrtm (binary r c a r' c' e (out ∷ out' ∷ []) w) (rootWithDerivative f r (secondOf transposed r) a e)
 
 -- the slots of the column and of the matrix, whose order is 64 at most
 abbrev pub systemSlots : List ℕ

@@ -213,6 +213,25 @@ pub extern "C" fn entry_cond_expm(
 }
 
 #[no_mangle]
+pub extern "C" fn entry_frechet_sqrtm_sylvester(
+    m: usize,
+    n: usize,
+    a: &[f64],
+    height: usize,
+    width: usize,
+    e: &[f64],
+    first: &mut [f64],
+    second: &mut [f64],
+    w: &mut [f64],
+    report: &mut [usize],
+) -> u64 {
+    tell_answer(
+        report,
+        functions::frechet_sqrtm_sylvester(m, n, a, height, width, e, first, second, w),
+    )
+}
+
+#[no_mangle]
 pub extern "C" fn entry_compute(
     m: usize,
     n: usize,

@@ -213,6 +213,25 @@ pub extern "C" fn entry_cond_expm32(
 }
 
 #[no_mangle]
+pub extern "C" fn entry_frechet_sqrtm_sylvester32(
+    m: usize,
+    n: usize,
+    a: &[f32],
+    height: usize,
+    width: usize,
+    e: &[f32],
+    first: &mut [f32],
+    second: &mut [f32],
+    w: &mut [f32],
+    report: &mut [usize],
+) -> u64 {
+    tell_answer(
+        report,
+        functions32::frechet_sqrtm_sylvester(m, n, a, height, width, e, first, second, w),
+    )
+}
+
+#[no_mangle]
 pub extern "C" fn entry_compute32(
     m: usize,
     n: usize,

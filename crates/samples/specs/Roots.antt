@@ -1,9 +1,10 @@
--- The definitions of sqrtm, logm and their derivatives at numbers, against the source run in Rust.
+-- The definitions of sqrtm, logm and their derivatives at numbers, against the source run in Rust; frechet_sqrtm_sylvester, which the source does not have,
+-- against its system solved with the source's LU.
 use mathlib.Core.Path.{_≡_, refl}
 use mathlib.Core.Bool.{true}
 use mathlib.Core.List.{List, [], _∷_}
 use lib.Ieee.{binary64}
-use Rattle.functions_definitions.specs.Calls.{frechetLogm, frechetSqrtm, logm, sqrtm}
+use Rattle.functions_definitions.specs.Calls.{frechetLogm, frechetSqrtm, frechetSqrtmSylvester, logm, sqrtm}
 use Rattle.samples.specs.Shown.{Line, hold, numbers, shown, bits, both}
 use Rattle.samples.specs.Opened.{all}
 
@@ -67,6 +68,25 @@ frechet-sqrtm-table = (
 pub frechet-sqrtm-holds : hold frechet-sqrtm-table ≡ true
 unfolding frechet-sqrtm-table all
 frechet-sqrtm-holds = refl
+
+unfoldable pub frechet-sqrtm-sylvester-table : List Line
+frechet-sqrtm-sylvester-table =
+    -- order 1, as frechet_sqrtm
+    (1 ∷ 0 ∷ 0x3ff0000000000000 ∷ 0x3fd32e344c94fb4a ∷ [], shown (both binary64) (frechetSqrtmSylvester binary64 1 1 (numbers binary64 (0x3ff0000000000000 ∷ [])) 1 1 (numbers binary64 (0x3fe32e344c94fb4a ∷ [])) 1 1 8192))
+    -- [[3, 0], [2, 4]] in the direction [[1/2, 0], [1, 1/4]]
+    ∷ (1 ∷ 0 ∷ 0x3ffbb67ae8584cab ∷ 0x0000000000000000 ∷ 0x3fe126145e9ecd57 ∷ 0x4000000000000000 ∷ 0x3fc279a74590331c ∷ 0x0000000000000000 ∷ 0x3fce7eee90bc01ca ∷ 0x3fb0000000000000 ∷ [], shown (both binary64) (frechetSqrtmSylvester binary64 2 2 (numbers binary64 (0x4008000000000000 ∷ 0x0000000000000000 ∷ 0x4000000000000000 ∷ 0x4010000000000000 ∷ [])) 2 2 (numbers binary64 (0x3fe0000000000000 ∷ 0x0000000000000000 ∷ 0x3ff0000000000000 ∷ 0x3fd0000000000000 ∷ [])) 4 4 8192))
+    -- [[0, 3/2], [-3/2, 0]]
+    ∷ (1 ∷ 0 ∷ 0x3febb67ae8584cab ∷ 0x3febb67ae8584caa ∷ 0xbfebb67ae8584caa ∷ 0x3febb67ae8584cab ∷ 0xbfd279a74590331c ∷ 0x3fe279a74590331b ∷ 0x400279a74590331c ∷ 0x3ff7181116f43fe4 ∷ [], shown (both binary64) (frechetSqrtmSylvester binary64 2 2 (numbers binary64 (0x0000000000000000 ∷ 0x3ff8000000000000 ∷ 0xbff8000000000000 ∷ 0x0000000000000000 ∷ [])) 2 2 (numbers binary64 (0x3ff0000000000000 ∷ 0x4000000000000000 ∷ 0x4008000000000000 ∷ 0x4010000000000000 ∷ [])) 4 4 8192))
+    -- diag(2, 3), whose root is symmetric: both functions alike
+    ∷ (1 ∷ 0 ∷ 0x3ff6a09e667f3bcc ∷ 0x0000000000000000 ∷ 0x0000000000000000 ∷ 0x3ffbb67ae8584cab ∷ 0x3fd6a09e667f3bcd ∷ 0x3fe4577207644377 ∷ 0x3fee832b0b166533 ∷ 0x3ff279a74590331c ∷ [], shown (both binary64) (frechetSqrtmSylvester binary64 2 2 (numbers binary64 (0x4000000000000000 ∷ 0x0000000000000000 ∷ 0x0000000000000000 ∷ 0x4008000000000000 ∷ [])) 2 2 (numbers binary64 (0x3ff0000000000000 ∷ 0x4000000000000000 ∷ 0x4008000000000000 ∷ 0x4010000000000000 ∷ [])) 4 4 8192))
+    ∷ (1 ∷ 0 ∷ 0x3ff6a09e667f3bcc ∷ 0x0000000000000000 ∷ 0x0000000000000000 ∷ 0x3ffbb67ae8584cab ∷ 0x3fd6a09e667f3bcd ∷ 0x3fe4577207644377 ∷ 0x3fee832b0b166533 ∷ 0x3ff279a74590331c ∷ [], shown (both binary64) (frechetSqrtm binary64 2 2 (numbers binary64 (0x4000000000000000 ∷ 0x0000000000000000 ∷ 0x0000000000000000 ∷ 0x4008000000000000 ∷ [])) 2 2 (numbers binary64 (0x3ff0000000000000 ∷ 0x4000000000000000 ∷ 0x4008000000000000 ∷ 0x4010000000000000 ∷ [])) 4 4 8192))
+    -- [[1, 2 ^ 53], [0, 1]]: the root is found, and LU refuses the system
+    ∷ (0 ∷ 13 ∷ 0 ∷ 0 ∷ [], shown (both binary64) (frechetSqrtmSylvester binary64 2 2 (numbers binary64 (0x3ff0000000000000 ∷ 0x4340000000000000 ∷ 0x0000000000000000 ∷ 0x3ff0000000000000 ∷ [])) 2 2 (numbers binary64 (0x3ff0000000000000 ∷ 0x4000000000000000 ∷ 0x4008000000000000 ∷ 0x4010000000000000 ∷ [])) 4 4 8192))
+    ∷ []
+
+pub frechet-sqrtm-sylvester-holds : hold frechet-sqrtm-sylvester-table ≡ true
+unfolding frechet-sqrtm-sylvester-table all
+frechet-sqrtm-sylvester-holds = refl
 
 unfoldable pub frechet-logm-table : List Line
 frechet-logm-table = (

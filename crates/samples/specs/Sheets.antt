@@ -34,11 +34,14 @@ bytes = (2 ∷ []) ++ one ++ one ++ zero ++ one ++ (0 ∷ 1 ∷ []) ++ three ++ 
 --     0 no 15 46 0     with one more
 --     0 no 16 0 0      of order 9
 --     0 no 16 33 0     of 9 directions
---     0 no 16 44 0     with code 10
+--     0 no 16 44 0     with code 11
 --     0 no 16 45 0     with code 6 and no direction
+--     0 no 16 45 0     with code 10 and no direction
 --     0 no 16 45 0     with exponent 1 of one
 --     1 no 6 0 0       with an infinity in the first entry
 --     1 no 17 80 0     with 2^80 in the first entry and the task expm
+--     1 ok 0 3ff0000000000000 3ff8000000000000 7ff0000000000000
+--                      of order 1: 1 in the direction 3, code 10
 unfoldable pub sheet-table : List Line
 sheet-table =
     (49 ∷ 32 ∷ 111 ∷ 107 ∷ 32 ∷ 48 ∷ 32 ∷ 51 ∷ 102 ∷ 102 ∷ 48 ∷ 48 ∷ 48 ∷ 48 ∷ 48 ∷ 48 ∷ 48 ∷ 48 ∷ 48 ∷ 48 ∷ 48 ∷ 48 ∷ 48 ∷ 32 ∷ 52 ∷ 48 ∷ 48 ∷ 56 ∷ 48 ∷ 48 ∷ 48 ∷ 48 ∷ 48 ∷ 48 ∷ 48 ∷ 48 ∷ 48 ∷ 48 ∷ 48 ∷ 48 ∷ 32 ∷ 48 ∷ 48 ∷ 48 ∷ 48 ∷ 48 ∷ 48 ∷ 48 ∷ 48 ∷ 48 ∷ 48 ∷ 48 ∷ 48 ∷ 48 ∷ 48 ∷ 48 ∷ 48 ∷ 32 ∷ 51 ∷ 102 ∷ 102 ∷ 48 ∷ 48 ∷ 48 ∷ 48 ∷ 48 ∷ 48 ∷ 48 ∷ 48 ∷ 48 ∷ 48 ∷ 48 ∷ 48 ∷ 48 ∷ 32 ∷ 55 ∷ 102 ∷ 102 ∷ 48 ∷ 48 ∷ 48 ∷ 48 ∷ 48 ∷ 48 ∷ 48 ∷ 48 ∷ 48 ∷ 48 ∷ 48 ∷ 48 ∷ 48 ∷ 10 ∷ [], sheetLines binary64 bytes)
@@ -48,11 +51,13 @@ sheet-table =
     ∷ (48 ∷ 32 ∷ 110 ∷ 111 ∷ 32 ∷ 49 ∷ 53 ∷ 32 ∷ 52 ∷ 54 ∷ 32 ∷ 48 ∷ 10 ∷ [], sheetLines binary64 (bytes ++ (7 ∷ [])))
     ∷ (48 ∷ 32 ∷ 110 ∷ 111 ∷ 32 ∷ 49 ∷ 54 ∷ 32 ∷ 48 ∷ 32 ∷ 48 ∷ 10 ∷ [], sheetLines binary64 (set bytes 0 9))
     ∷ (48 ∷ 32 ∷ 110 ∷ 111 ∷ 32 ∷ 49 ∷ 54 ∷ 32 ∷ 51 ∷ 51 ∷ 32 ∷ 48 ∷ 10 ∷ [], sheetLines binary64 (set bytes 33 9))
-    ∷ (48 ∷ 32 ∷ 110 ∷ 111 ∷ 32 ∷ 49 ∷ 54 ∷ 32 ∷ 52 ∷ 52 ∷ 32 ∷ 48 ∷ 10 ∷ [], sheetLines binary64 (set bytes 44 10))
+    ∷ (48 ∷ 32 ∷ 110 ∷ 111 ∷ 32 ∷ 49 ∷ 54 ∷ 32 ∷ 52 ∷ 52 ∷ 32 ∷ 48 ∷ 10 ∷ [], sheetLines binary64 (set bytes 44 11))
     ∷ (48 ∷ 32 ∷ 110 ∷ 111 ∷ 32 ∷ 49 ∷ 54 ∷ 32 ∷ 52 ∷ 53 ∷ 32 ∷ 48 ∷ 10 ∷ [], sheetLines binary64 (set bytes 44 6))
+    ∷ (48 ∷ 32 ∷ 110 ∷ 111 ∷ 32 ∷ 49 ∷ 54 ∷ 32 ∷ 52 ∷ 53 ∷ 32 ∷ 48 ∷ 10 ∷ [], sheetLines binary64 (set bytes 44 10))
     ∷ (48 ∷ 32 ∷ 110 ∷ 111 ∷ 32 ∷ 49 ∷ 54 ∷ 32 ∷ 52 ∷ 53 ∷ 32 ∷ 48 ∷ 10 ∷ [], sheetLines binary64 (set bytes 45 1))
     ∷ (49 ∷ 32 ∷ 110 ∷ 111 ∷ 32 ∷ 54 ∷ 32 ∷ 48 ∷ 32 ∷ 48 ∷ 10 ∷ [], sheetLines binary64 (set bytes 8 127))
     ∷ (49 ∷ 32 ∷ 110 ∷ 111 ∷ 32 ∷ 49 ∷ 55 ∷ 32 ∷ 56 ∷ 48 ∷ 32 ∷ 48 ∷ 10 ∷ [], sheetLines binary64 (set (set bytes 8 68) 44 0))
+    ∷ (49 ∷ 32 ∷ 111 ∷ 107 ∷ 32 ∷ 48 ∷ 32 ∷ 51 ∷ 102 ∷ 102 ∷ 48 ∷ 48 ∷ 48 ∷ 48 ∷ 48 ∷ 48 ∷ 48 ∷ 48 ∷ 48 ∷ 48 ∷ 48 ∷ 48 ∷ 48 ∷ 32 ∷ 51 ∷ 102 ∷ 102 ∷ 56 ∷ 48 ∷ 48 ∷ 48 ∷ 48 ∷ 48 ∷ 48 ∷ 48 ∷ 48 ∷ 48 ∷ 48 ∷ 48 ∷ 48 ∷ 32 ∷ 55 ∷ 102 ∷ 102 ∷ 48 ∷ 48 ∷ 48 ∷ 48 ∷ 48 ∷ 48 ∷ 48 ∷ 48 ∷ 48 ∷ 48 ∷ 48 ∷ 48 ∷ 48 ∷ 10 ∷ [], sheetLines binary64 ((1 ∷ []) ++ one ++ (1 ∷ []) ++ three ++ (0 ∷ 1 ∷ 10 ∷ 0 ∷ [])))
     ∷ []
 
 pub sheets-hold : hold sheet-table ≡ true

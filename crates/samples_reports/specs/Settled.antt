@@ -11,7 +11,7 @@ use Rattle.arithmetic_floats.specs.Float.{+zero, one}
 use Rattle.arithmetic_questions.specs.Reports.{reportAt}
 use Rattle.arithmetic_questions.specs.declared.answer.Report.{Report}
 use Rattle.functions_definitions.specs.Roots.{squareRoot}
-use Rattle.functions_definitions.specs.Reports.{luReport, expReport, rootReport, frechetSqrtReport, logReport, frechetLogReport, powerReport}
+use Rattle.functions_definitions.specs.Reports.{luReport, expReport, rootReport, frechetSqrtReport, frechetSqrtSylvesterReport, logReport, frechetLogReport, powerReport}
 use Rattle.samples.specs.Shown.{Line, hold, numbers}
 use Rattle.samples.specs.Opened.{all}
 use Rattle.samples_reports.specs.Smallest.{whole, lower, toward}
@@ -34,11 +34,13 @@ roots =
     (8 ∷ 1 ∷ [], steps (rootReport binary64 2 (numbers binary64 (0x3fe0000000000000 ∷ 0x3fd5555555555555 ∷ 0x3fd5555555555555 ∷ 0x3fd0000000000000 ∷ []))))
     ∷ (10 ∷ 1 ∷ [], steps (rootReport binary64 2 (numbers binary64 (0x40085ebe1e10b468 ∷ 0x427f4ba7df31a240 ∷ 0xbcfa13595a75b3d8 ∷ 0xbcb1ff2fce5231b0 ∷ []))))
     ∷ (6 ∷ 1 ∷ [], steps (frechetSqrtReport binary64 2 lower))
+    ∷ (6 ∷ 1 ∷ [], steps (frechetSqrtSylvesterReport binary64 2 lower))
     -- NaNs never meet the test
     ∷ (100 ∷ 0 ∷ [], steps (rootReport binary64 2 nans))
     -- at order 1 there is no pass; the zero matrix is refused
     ∷ (0 ∷ 1 ∷ [], steps (rootReport binary64 1 (whole 4 ∷ [])))
     ∷ (0 ∷ 1 ∷ [], steps (frechetSqrtReport binary64 1 (whole 4 ∷ [])))
+    ∷ (0 ∷ 1 ∷ [], steps (frechetSqrtSylvesterReport binary64 1 (whole 4 ∷ [])))
     ∷ (0 ∷ 0 ∷ [], let zeros = +zero ∷ +zero ∷ +zero ∷ +zero ∷ [] in steps (reportAt (squareRoot binary64 2 zeros) (rootReport binary64 2 zeros)))
     ∷ []
 
@@ -51,6 +53,7 @@ roots-single =
     (7 ∷ 1 ∷ [], steps (rootReport binary32 2 (numbers binary32 (0x3f000000 ∷ 0x3eaaaaab ∷ 0x3eaaaaab ∷ 0x3e800000 ∷ []))))
     ∷ (6 ∷ 1 ∷ [], steps (rootReport binary32 2 (numbers binary32 (0x40428f5c ∷ 0x53f478e1 ∷ 0xaccc11c1 ∷ 0xba83126f ∷ []))))
     ∷ (5 ∷ 1 ∷ [], steps (frechetSqrtReport binary32 2 lower))
+    ∷ (5 ∷ 1 ∷ [], steps (frechetSqrtSylvesterReport binary32 2 lower))
     ∷ (100 ∷ 0 ∷ [], steps (rootReport binary32 2 nans))
     ∷ (0 ∷ 1 ∷ [], steps (rootReport binary32 1 (whole 4 ∷ [])))
     ∷ []

@@ -10,7 +10,7 @@ use Rattle.arithmetic_floats.specs.Float.{+zero, one}
 use Rattle.arithmetic_questions.specs.Reports.{reportAt}
 use Rattle.arithmetic_questions.specs.declared.answer.Report.{Report}
 use Rattle.functions_definitions.specs.Roots.{squareRoot}
-use Rattle.functions_definitions.specs.Reports.{luReport, expReport, frechetExpReport, condExpReport, rootReport, frechetSqrtReport, powerReport}
+use Rattle.functions_definitions.specs.Reports.{luReport, expReport, frechetExpReport, condExpReport, rootReport, frechetSqrtReport, frechetSqrtSylvesterReport, powerReport}
 use Rattle.samples.specs.Shown.{same}
 use Rattle.samples.specs.Opened.{all}
 
@@ -76,21 +76,25 @@ pub exponentials-hold-single : same (0x3fe8e3f780000000 ∷ 0x3fec3b27e0000000 �
 unfolding all
 exponentials-hold-single = refl
 
--- ---- roots: of A; at order 1; of the zero matrix, whose first pass factors z, and is refused
+-- ---- roots: of A; of [[1, 0], [2 ^ 17, 1]], where the system has the smallest pivot; at order 1; of the zero matrix, whose first pass factors z, and is
+-- refused
 
 abbrev roots : Format → List Report
 roots f =
     rootReport f 2 lower
     ∷ frechetSqrtReport f 2 lower
+    ∷ frechetSqrtSylvesterReport f 2 lower
+    ∷ frechetSqrtSylvesterReport f 2 (one ∷ +zero ∷ fin false 1 (pos 17) ∷ one ∷ [])
     ∷ rootReport f 1 (whole 4 ∷ [])
     ∷ frechetSqrtReport f 1 (whole 4 ∷ [])
+    ∷ frechetSqrtSylvesterReport f 1 (whole 4 ∷ [])
     ∷ (let zeros = +zero ∷ +zero ∷ +zero ∷ +zero ∷ [] in reportAt (squareRoot f 2 zeros) (rootReport f 2 zeros))
     ∷ []
 
-pub roots-hold : same (0x3fe0000000000005 ∷ 0x3fe0000000000005 ∷ 0x7ff0000000000000 ∷ 0x7ff0000000000000 ∷ 0x7ff0000000000000 ∷ []) (bits (roots binary64)) ≡ true
+pub roots-hold : same (0x3fe0000000000005 ∷ 0x3fe0000000000005 ∷ 0x3fe0000000000005 ∷ 0x3ee0000000000000 ∷ 0x7ff0000000000000 ∷ 0x7ff0000000000000 ∷ 0x7ff0000000000000 ∷ 0x7ff0000000000000 ∷ []) (bits (roots binary64)) ≡ true
 unfolding all
 roots-hold = refl
 
-pub roots-hold-single : same (0x3fe0000000000000 ∷ 0x3fe0000000000000 ∷ 0x7ff0000000000000 ∷ 0x7ff0000000000000 ∷ 0x7ff0000000000000 ∷ []) (bits (roots binary32)) ≡ true
+pub roots-hold-single : same (0x3fe0000000000000 ∷ 0x3fe0000000000000 ∷ 0x3fe0000000000000 ∷ 0x3ee0000000000000 ∷ 0x7ff0000000000000 ∷ 0x7ff0000000000000 ∷ 0x7ff0000000000000 ∷ 0x7ff0000000000000 ∷ []) (bits (roots binary32)) ≡ true
 unfolding all
 roots-hold-single = refl

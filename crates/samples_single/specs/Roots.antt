@@ -1,9 +1,10 @@
--- The definitions of sqrtm, logm and their derivatives at numbers of binary32, against the source run in Rust with T = f32.
+-- The definitions of sqrtm, logm and their derivatives at numbers of binary32, against the source run in Rust with T = f32; frechet_sqrtm_sylvester, which
+-- the source does not have, against its system solved with the source's LU.
 use mathlib.Core.Path.{_≡_, refl}
 use mathlib.Core.Bool.{true}
 use mathlib.Core.List.{List, [], _∷_}
 use lib.Ieee.{binary32}
-use Rattle.functions_definitions.specs.Calls.{frechetLogm, frechetSqrtm, logm, sqrtm}
+use Rattle.functions_definitions.specs.Calls.{frechetLogm, frechetSqrtm, frechetSqrtmSylvester, logm, sqrtm}
 use Rattle.samples.specs.Shown.{Line, hold, numbers, shown, bits, both}
 use Rattle.samples.specs.Opened.{all}
 
@@ -110,6 +111,24 @@ frechet-sqrtm-table =
 pub frechet-sqrtm-holds : hold frechet-sqrtm-table ≡ true
 unfolding frechet-sqrtm-table all
 frechet-sqrtm-holds = refl
+
+unfoldable pub frechet-sqrtm-sylvester-table : List Line
+frechet-sqrtm-sylvester-table =
+    -- order 1, as frechet_sqrtm
+    (1 ∷ 0 ∷ 0x3f800000 ∷ 0x3e995810 ∷ [], shown (both binary32) (frechetSqrtmSylvester binary32 1 1 (numbers binary32 (0x3f800000 ∷ [])) 1 1 (numbers binary32 (0x3f195810 ∷ [])) 1 1 8192))
+    -- [[3, 0], [2, 4]], [[0, 3/2], [-3/2, 0]]
+    ∷ (1 ∷ 0 ∷ 0x3fddb3d6 ∷ 0x00000000 ∷ 0x3f0930a2 ∷ 0x40000000 ∷ 0x3e52b5bd ∷ 0x3f0930a3 ∷ 0x3f2419a3 ∷ 0x3f6d9eba ∷ [], shown (both binary32) (frechetSqrtmSylvester binary32 2 2 (numbers binary32 (0x40400000 ∷ 0x00000000 ∷ 0x40000000 ∷ 0x40800000 ∷ [])) 2 2 (numbers binary32 (0x3f800000 ∷ 0x40000000 ∷ 0x40400000 ∷ 0x40800000 ∷ [])) 4 4 8192))
+    ∷ (1 ∷ 0 ∷ 0x3f5db3d6 ∷ 0x3f5db3d8 ∷ 0xbf5db3d7 ∷ 0x3f5db3d8 ∷ 0xbe93cd3b ∷ 0x3f13cd39 ∷ 0x4013cd3a ∷ 0x3fb8c08a ∷ [], shown (both binary32) (frechetSqrtmSylvester binary32 2 2 (numbers binary32 (0x00000000 ∷ 0x3fc00000 ∷ 0xbfc00000 ∷ 0x00000000 ∷ [])) 2 2 (numbers binary32 (0x3f800000 ∷ 0x40000000 ∷ 0x40400000 ∷ 0x40800000 ∷ [])) 4 4 8192))
+    -- [[1/2, 1/3], [1/3, 1/4]], whose root is symmetric: both functions alike
+    ∷ (1 ∷ 0 ∷ 0x3f1f5017 ∷ 0x3eabe662 ∷ 0x3eabe662 ∷ 0x3ebdb364 ∷ 0x3eb7e072 ∷ 0x3ea3d08e ∷ 0x3fa9e0f3 ∷ 0x4094daa9 ∷ [], shown (both binary32) (frechetSqrtmSylvester binary32 2 2 (numbers binary32 (0x3f000000 ∷ 0x3eaaaaab ∷ 0x3eaaaaab ∷ 0x3e800000 ∷ [])) 2 2 (numbers binary32 (0x3f800000 ∷ 0x40000000 ∷ 0x40400000 ∷ 0x40800000 ∷ [])) 4 4 8192))
+    ∷ (1 ∷ 0 ∷ 0x3f1f5017 ∷ 0x3eabe662 ∷ 0x3eabe662 ∷ 0x3ebdb364 ∷ 0x3eb7e072 ∷ 0x3ea3d08e ∷ 0x3fa9e0f3 ∷ 0x4094daa9 ∷ [], shown (both binary32) (frechetSqrtm binary32 2 2 (numbers binary32 (0x3f000000 ∷ 0x3eaaaaab ∷ 0x3eaaaaab ∷ 0x3e800000 ∷ [])) 2 2 (numbers binary32 (0x3f800000 ∷ 0x40000000 ∷ 0x40400000 ∷ 0x40800000 ∷ [])) 4 4 8192))
+    -- [[1, 2 ^ 24], [0, 1]]: the root is found, and LU refuses the system
+    ∷ (0 ∷ 13 ∷ 0 ∷ 0 ∷ [], shown (both binary32) (frechetSqrtmSylvester binary32 2 2 (numbers binary32 (0x3f800000 ∷ 0x4b800000 ∷ 0x00000000 ∷ 0x3f800000 ∷ [])) 2 2 (numbers binary32 (0x3f800000 ∷ 0x40000000 ∷ 0x40400000 ∷ 0x40800000 ∷ [])) 4 4 8192))
+    ∷ []
+
+pub frechet-sqrtm-sylvester-holds : hold frechet-sqrtm-sylvester-table ≡ true
+unfolding frechet-sqrtm-sylvester-table all
+frechet-sqrtm-sylvester-holds = refl
 
 unfoldable pub frechet-logm-table : List Line
 frechet-logm-table =

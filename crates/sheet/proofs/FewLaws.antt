@@ -7,7 +7,7 @@ use lib.IntN.{ℤ, pos, negsuc}
 use lib.Dec.{lit≤, eqb}
 use lib.Ieee.{Float, Format, binary64, add}
 use Rattle.arithmetic_floats.specs.Float.{integerOf, one}
-use Rattle.arithmetic_matrices.specs.Product.{timesM}
+use Rattle.arithmetic_matrices.specs.Product.{timesM, transposeM}
 use Rattle.arithmetic_matrices.specs.Norm.{norm1}
 use Rattle.arithmetic_questions.specs.Result.{Result, refused, done, _>>=_, outcome}
 use Rattle.arithmetic_questions.specs.Questions.{Call, Profile, asked, answer}
@@ -18,9 +18,9 @@ use Rattle.functions_definitions.specs.Roots.{squareRoot}
 use Rattle.functions_definitions.specs.Logarithm.{logarithm}
 use Rattle.functions_definitions.specs.Powers.{halvingsFor, expM, wholePower, fractionalPower, isWhole, powerM}
 use Rattle.functions_definitions.specs.Trigonometric.{trigonometricHalvings, cosM, sinM}
-use Rattle.functions_definitions.specs.Derivatives.{blockQuarters, frechetExpM, secondLogarithm, frechetLogM, rootDerivative, frechetSqrtM, unitDirection, conditioned, condExpM}
+use Rattle.functions_definitions.specs.Derivatives.{blockQuarters, frechetExpM, secondLogarithm, frechetLogM, rootDerivative, rootWithDerivative, frechetSqrtM, frechetSqrtSylvesterM, unitDirection, conditioned, condExpM}
 use Rattle.functions_definitions.specs.Exponential.{block}
-use Rattle.functions_definitions.specs.Calls.{expm, logm, sqrtm, powm, cosm, sinm, frechetExpm, frechetLogm, frechetSqrtm, condExpm}
+use Rattle.functions_definitions.specs.Calls.{expm, logm, sqrtm, powm, cosm, sinm, frechetExpm, frechetLogm, frechetSqrtm, frechetSqrtmSylvester, condExpm}
 use Rattle.functions_definitions.proofs.HalvingLaws.{Limited, halvings-limited}
 use Rattle.sheet_encoding.specs.Kernels.{Few}
 use Rattle.sheet.specs.Tasks.{valueFor, derivativeFor}
@@ -94,9 +94,9 @@ few-frechetLogM : (f : Format) (n : ℕ) (a e : List Float) → Few (frechetLogM
 unfolding frechetLogM secondLogarithm
 few-frechetLogM f n a e = few-bind _ _ (λ l. few-bind _ _ (λ m. lit≤ tt))
 
-few-frechetSqrtM : (f : Format) (n : ℕ) (a e : List Float) → Few (frechetSqrtM f n a e)
-unfolding frechetSqrtM
-few-frechetSqrtM f n a e = few-bind _ _ (λ s. few-bind (rootDerivative f n s e) _ (λ x. lit≤ tt))
+few-root-derivative : (f : Format) (n : ℕ) (second : List Float → List Float) (a e : List Float) → Few (rootWithDerivative f n second a e)
+unfolding rootWithDerivative
+few-root-derivative f n second a e = few-bind _ _ (λ s. few-bind (rootDerivative f n s (second s) e) _ (λ x. lit≤ tt))
 
 few-conditioned : (f : Format) (n : ℕ) (r : Result Both) → Few r → Few (conditioned f n r)
 unfolding conditioned
@@ -119,10 +119,11 @@ few-value f n a p code =
     (few-cond (eqb code 4) _ _ (few-answer _ _ (cosM f n a) (few-cosM f n a)) (few-answer _ _ (sinM f n a) (few-sinM f n a))))))
 
 pub few-derivative : (f : Format) (n : ℕ) (a e : List Float) (code : ℕ) → Few (derivativeFor f n a e code)
-unfolding derivativeFor frechetExpm frechetLogm frechetSqrtm
+unfolding derivativeFor frechetExpm frechetLogm frechetSqrtm frechetSqrtmSylvester frechetSqrtM frechetSqrtSylvesterM
 few-derivative f n a e code =
     few-cond (eqb code 6) _ _ (few-answer _ _ (frechetExpM f n a e) (few-frechetExpM f n a e))
-    (few-cond (eqb code 7) _ _ (few-answer _ _ (frechetLogM f n a e) (few-frechetLogM f n a e)) (few-answer _ _ (frechetSqrtM f n a e) (few-frechetSqrtM f n a e)))
+    (few-cond (eqb code 7) _ _ (few-answer _ _ (frechetLogM f n a e) (few-frechetLogM f n a e))
+    (few-cond (eqb code 8) _ _ (few-answer _ _ _ (few-root-derivative f n (λ s. s) a e)) (few-answer _ _ _ (few-root-derivative f n (transposeM n) a e))))
 
 pub few-condition : (f : Format) (n : ℕ) (a : List Float) (w : ℕ) → Few (condExpm f n n a w)
 unfolding condExpm

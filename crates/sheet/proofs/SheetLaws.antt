@@ -3,9 +3,10 @@ use Prim.Native.Nat.{ℕ, _+_, _*_, _≤_, _<_}
 use native.Mathlib.Omega.{arith}
 use native.Mathlib.Numerals.{add-one}
 use native.Mathlib.Nat.{mul-le-mul-right, suc-mul}
-use mathlib.Core.Path.{_≡_, refl, sym, subst}
+use mathlib.Core.Path.{_≡_, refl, sym, ap, _∙_, subst}
+use mathlib.Core.Bool.{true, true≢false}
 use mathlib.Core.List.{List, [], _++_}
-use borrow.Author.Tests.{le-leb, eq-eqb, ne-eqb}
+use borrow.Author.Tests.{eq-eqb, ne-eqb}
 use lib.ListN.{length}
 use lib.Ieee.{Format}
 use Rattle.sheet_encoding.specs.declared.parse.SheetRefusal.{SheetRefusal}
@@ -15,7 +16,7 @@ use Rattle.sheet_encoding.specs.Bytes.{byteAt}
 use Rattle.sheet_encoding.specs.Text.{resultLine, carrying}
 use Rattle.sheet_encoding.specs.Kernels.{AllLines}
 use Rattle.sheet_encoding.specs.Limits.{outputLimit}
-use Rattle.sheet_encoding.specs.Parse.{sheetNumbered, matrixSize, directionsAt, exponentsAt, tasksAt, taskAt, indexLimit, parseSheet, SheetIs}
+use Rattle.sheet_encoding.specs.Parse.{sheetNumbered, matrixSize, directionsAt, exponentsAt, tasksAt, taskAt, takesDirection, indexLimit, parseSheet, SheetIs}
 use Rattle.sheet.specs.Tasks.{taskLine, taskLines, linesOf, sheetLines, Entered}
 use Rattle.sheet.specs.Kernels.{TaskReady}
 
@@ -46,8 +47,8 @@ item-within p size i c l h k = let m : (i + 1) * size ≤ c * size = mul-le-mul-
 limit-exponent : (code d e i : ℕ) → code ≡ 3 → i < indexLimit code d e → i < e
 limit-exponent code d e i h l = subst (λ (k : ℕ). i < k) (simp (eq-eqb code 3 h)) l
 
-limit-direction : (code d e i : ℕ) → 6 ≤ code → code < 9 → i < indexLimit code d e → i < d
-limit-direction code d e i h k l = subst (λ (m : ℕ). i < m) (simp (ne-eqb code 3 (λ z. omega arith), le-leb 6 code h, le-leb code 8 (omega arith))) l
+limit-direction : (code d e i : ℕ) → takesDirection code ≡ true → i < indexLimit code d e → i < d
+limit-direction code d e i h l = subst (λ (m : ℕ). i < m) (simp (ne-eqb code 3 (λ z. true≢false (sym h ∙ ap takesDirection z)), h)) l
 
 pub task-ready : (s : List ℕ) (n d e t k : ℕ) → SheetIs s n d e t → k < t → TaskReady s (taskAt n d e k) n d
 task-ready s n d e t k z h =
@@ -57,8 +58,8 @@ task-ready s n d e t k z h =
       there = omega (arith, z .long);
       directions = z .directions;
       exponent = λ c. item-within (exponentsAt n d + 1) 8 (byteAt s (q + 1)) e (length s) (limit-exponent (byteAt s q) d e (byteAt s (q + 1)) c (task .index)) (omega (arith, z .long));
-      direction = λ a b. item-within (directionsAt n + 1) (matrixSize n) (byteAt s (q + 1)) d (length s) (limit-direction (byteAt s q) d e (byteAt s (q + 1)) a b (task .index)) (omega (arith, z .long));
-      index = λ a b. let l = limit-direction (byteAt s q) d e (byteAt s (q + 1)) a b (task .index) in omega (arith, z .directions);
+      direction = λ c. item-within (directionsAt n + 1) (matrixSize n) (byteAt s (q + 1)) d (length s) (limit-direction (byteAt s q) d e (byteAt s (q + 1)) c (task .index)) (omega (arith, z .long));
+      index = λ c. let l = limit-direction (byteAt s q) d e (byteAt s (q + 1)) c (task .index) in omega (arith, z .directions);
     }
 
 -- ---- the entry

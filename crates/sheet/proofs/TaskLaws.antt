@@ -1,7 +1,7 @@
 -- The result of a task from what its call leaves, and the function of each code. Assumes nothing.
 use Prim.Native.Nat.{ℕ, _*_, _≤_, _<_}
 use mathlib.Core.Path.{_≡_, refl, ap, sym, subst, _∙_}
-use mathlib.Core.Bool.{false}
+use mathlib.Core.Bool.{true, false}
 use mathlib.Core.List.{List, [], _∷_, _++_, append-nil}
 use borrow.Author.Tests.{lt-ltb, le-ltb, eq-eqb, ne-eqb}
 use lib.ListN.{length}
@@ -15,11 +15,11 @@ use Rattle.arithmetic_questions.specs.declared.answer.Report.{Report}
 use Rattle.arithmetic_questions.proofs.ReportLaws.{report-as}
 use Rattle.functions_definitions.specs.Derivatives.{Condition}
 use Rattle.functions_definitions.specs.Conditions.{Conditioned}
-use Rattle.functions_definitions.specs.Calls.{expm, logm, sqrtm, powm, cosm, sinm, frechetExpm, frechetLogm, frechetSqrtm, condExpm}
-use Rattle.functions_definitions.specs.Reports.{expReport, logReport, rootReport, powerReport, frechetExpReport, frechetLogReport, frechetSqrtReport, condExpReport}
+use Rattle.functions_definitions.specs.Calls.{expm, logm, sqrtm, powm, cosm, sinm, frechetExpm, frechetLogm, frechetSqrtm, frechetSqrtmSylvester, condExpm}
+use Rattle.functions_definitions.specs.Reports.{expReport, logReport, rootReport, powerReport, frechetExpReport, frechetLogReport, frechetSqrtReport, frechetSqrtSylvesterReport, condExpReport}
 use Rattle.sheet_encoding.specs.Bytes.{numbersAt}
 use Rattle.sheet_encoding.specs.Text.{resultLine, carrying}
-use Rattle.sheet_encoding.specs.Parse.{directionAt, exponentAt}
+use Rattle.sheet_encoding.specs.Parse.{directionAt, exponentAt, takesDirection}
 use Rattle.sheet_encoding.specs.Kernels.{Lined}
 use Rattle.sheet.specs.Tasks.{workspaceLength, valueFor, valueReport, derivativeFor, derivativeReport, both, ratio, exponentFor, taskResult, taskReport, ending, taskNumbers}
 
@@ -115,9 +115,13 @@ module _ (f : Format) (n : ℕ) (a e : List Float) (code : ℕ) where
   unfolding derivativeFor derivativeReport
   derivative-7 h0 h = (simp (ne-eqb code 6 h0, eq-eqb code 7 h), simp (ne-eqb code 6 h0, eq-eqb code 7 h))
 
-  pub derivative-8 : (code ≡ 6 → ⊥) → (code ≡ 7 → ⊥) → (derivativeFor f n a e code ≡ frechetSqrtm f n n a n n e (n * n) (n * n) workspaceLength) × (derivativeReport f n a e code ≡ frechetSqrtReport f n a)
+  pub derivative-8 : (code ≡ 6 → ⊥) → (code ≡ 7 → ⊥) → code ≡ 8 → (derivativeFor f n a e code ≡ frechetSqrtm f n n a n n e (n * n) (n * n) workspaceLength) × (derivativeReport f n a e code ≡ frechetSqrtReport f n a)
   unfolding derivativeFor derivativeReport
-  derivative-8 h0 h1 = (simp (ne-eqb code 6 h0, ne-eqb code 7 h1), simp (ne-eqb code 6 h0, ne-eqb code 7 h1))
+  derivative-8 h0 h1 h = (simp (ne-eqb code 6 h0, ne-eqb code 7 h1, eq-eqb code 8 h), simp (ne-eqb code 6 h0, ne-eqb code 7 h1, eq-eqb code 8 h))
+
+  pub derivative-10 : (code ≡ 6 → ⊥) → (code ≡ 7 → ⊥) → (code ≡ 8 → ⊥) → (derivativeFor f n a e code ≡ frechetSqrtmSylvester f n n a n n e (n * n) (n * n) workspaceLength) × (derivativeReport f n a e code ≡ frechetSqrtSylvesterReport f n a)
+  unfolding derivativeFor derivativeReport
+  derivative-10 h0 h1 h2 = (simp (ne-eqb code 6 h0, ne-eqb code 7 h1, ne-eqb code 8 h2), simp (ne-eqb code 6 h0, ne-eqb code 7 h1, ne-eqb code 8 h2))
 
 -- the kind of a task; a is the sheet's matrix
 module _ (f : Format) (s : List ℕ) (n d code i : ℕ) (a : List Float) (h : a ≡ numbersAt f s 1 (n * n)) where
@@ -125,10 +129,10 @@ module _ (f : Format) (s : List ℕ) (n d code i : ℕ) (a : List Float) (h : a 
   unfolding taskResult taskReport
   task-value l = rw (h, lt-ltb code 6 l)
 
-  pub task-derivative : 6 ≤ code → code < 9 → ending (derivativeReport f n a (numbersAt f s (directionAt n i) (n * n)) code) (both (derivativeFor f n a (numbersAt f s (directionAt n i) (n * n)) code)) ≡ taskNumbers f s n d code i
+  pub task-derivative : 6 ≤ code → takesDirection code ≡ true → ending (derivativeReport f n a (numbersAt f s (directionAt n i) (n * n)) code) (both (derivativeFor f n a (numbersAt f s (directionAt n i) (n * n)) code)) ≡ taskNumbers f s n d code i
   unfolding taskResult taskReport
-  task-derivative l k = rw (h, le-ltb code 6 l, lt-ltb code 9 k)
+  task-derivative l k = rw (h, le-ltb code 6 l, k)
 
-  pub task-condition : 6 ≤ code → 9 ≤ code → ending (condExpReport f n a) (ratio (condExpm f n n a workspaceLength)) ≡ taskNumbers f s n d code i
+  pub task-condition : 6 ≤ code → takesDirection code ≡ false → ending (condExpReport f n a) (ratio (condExpm f n n a workspaceLength)) ≡ taskNumbers f s n d code i
   unfolding taskResult taskReport
-  task-condition l k = rw (h, le-ltb code 6 l, le-ltb code 9 k)
+  task-condition l k = rw (h, le-ltb code 6 l, k)

@@ -12,14 +12,14 @@ use Rattle.arithmetic_questions.specs.Outputs.{Both}
 use Rattle.arithmetic_questions.specs.Reports.{nothing}
 use Rattle.arithmetic_questions.specs.declared.answer.Report.{Report}
 use Rattle.functions_definitions.specs.Derivatives.{Condition}
-use Rattle.functions_definitions.specs.Calls.{expm, logm, sqrtm, powm, cosm, sinm, frechetExpm, frechetLogm, frechetSqrtm, condExpm}
-use Rattle.functions_definitions.specs.Reports.{expReport, logReport, rootReport, powerReport, frechetExpReport, frechetLogReport, frechetSqrtReport, condExpReport}
+use Rattle.functions_definitions.specs.Calls.{expm, logm, sqrtm, powm, cosm, sinm, frechetExpm, frechetLogm, frechetSqrtm, frechetSqrtmSylvester, condExpm}
+use Rattle.functions_definitions.specs.Reports.{expReport, logReport, rootReport, powerReport, frechetExpReport, frechetLogReport, frechetSqrtReport, frechetSqrtSylvesterReport, condExpReport}
 use Rattle.sheet_encoding.specs.declared.parse.Parse.{Parse}
 use Rattle.sheet_encoding.specs.declared.parse.Parse.the-variants.{Sheet, Refused}
 use Rattle.sheet_encoding.specs.Bytes.{byteAt, numberAt, numbersAt}
 use Rattle.sheet_encoding.specs.Text.{resultLine, carrying}
 use Rattle.sheet_encoding.specs.Limits.{outputLimit}
-use Rattle.sheet_encoding.specs.Parse.{sheetNumbered, directionAt, exponentAt, tasksAt, parseSheet}
+use Rattle.sheet_encoding.specs.Parse.{sheetNumbered, directionAt, exponentAt, tasksAt, takesDirection, parseSheet}
 
 -- ---- one task: n by n matrices, outputs of n * n numbers, and a workspace
 
@@ -37,12 +37,13 @@ valueFor f n a p code =
     (cond (eqb code 4) (cosm f n n a (n * n) workspaceLength)
     (sinm f n n a (n * n) workspaceLength)))))
 
--- codes 6 to 8, of the matrix a in the direction e
+-- codes 6 to 8 and 10, of the matrix a in the direction e
 unfoldable pub derivativeFor : Format → ℕ → List Float → List Float → ℕ → Result Both
 derivativeFor f n a e code =
     cond (eqb code 6) (frechetExpm f n n a n n e (n * n) (n * n) workspaceLength)
     (cond (eqb code 7) (frechetLogm f n n a n n e (n * n) (n * n) workspaceLength)
-    (frechetSqrtm f n n a n n e (n * n) (n * n) workspaceLength))
+    (cond (eqb code 8) (frechetSqrtm f n n a n n e (n * n) (n * n) workspaceLength)
+    (frechetSqrtmSylvester f n n a n n e (n * n) (n * n) workspaceLength)))
 
 -- what codes 0 to 5 report; cosm and sinm (4, 5) factor nothing
 unfoldable pub valueReport : Format → ℕ → List Float → Float → ℕ → Report
@@ -52,12 +53,13 @@ valueReport f n a p code =
     (cond (eqb code 2) (rootReport f n a)
     (cond (eqb code 3) (powerReport f n a p) nothing)))
 
--- what codes 6 to 8 report
+-- what codes 6 to 8 and 10 report
 unfoldable pub derivativeReport : Format → ℕ → List Float → List Float → ℕ → Report
 derivativeReport f n a e code =
     cond (eqb code 6) (frechetExpReport f n a e)
     (cond (eqb code 7) (frechetLogReport f n a e)
-    (frechetSqrtReport f n a))
+    (cond (eqb code 8) (frechetSqrtReport f n a)
+    (frechetSqrtSylvesterReport f n a)))
 
 -- a result with its outputs as one list: the first before the second, and of a condition the ratio only
 unfoldable pub both : Result Both → Result (List Float)
@@ -77,7 +79,7 @@ unfoldable pub taskResult : Format → List ℕ → ℕ → ℕ → ℕ → ℕ 
 taskResult f s n d code i =
     let a = numbersAt f s 1 (n * n) in
     cond (ltb code 6) (valueFor f n a (exponentFor f s code (exponentAt n d i)) code)
-    (cond (ltb code 9) (both (derivativeFor f n a (numbersAt f s (directionAt n i) (n * n)) code))
+    (cond (takesDirection code) (both (derivativeFor f n a (numbersAt f s (directionAt n i) (n * n)) code))
     (ratio (condExpm f n n a workspaceLength)))
 
 -- what the task reports, where it is done
@@ -85,7 +87,7 @@ unfoldable pub taskReport : Format → List ℕ → ℕ → ℕ → ℕ → ℕ 
 taskReport f s n d code i =
     let a = numbersAt f s 1 (n * n) in
     cond (ltb code 6) (valueReport f n a (exponentFor f s code (exponentAt n d i)) code)
-    (cond (ltb code 9) (derivativeReport f n a (numbersAt f s (directionAt n i) (n * n)) code)
+    (cond (takesDirection code) (derivativeReport f n a (numbersAt f s (directionAt n i) (n * n)) code)
     (condExpReport f n a))
 
 -- a result with the smallest pivot of its report after its numbers

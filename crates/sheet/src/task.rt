@@ -24,11 +24,13 @@ use functions_exponential::frechet::frechet_expm_with;
 use functions_logarithms::frechet_logm_with;
 use functions_logarithms::logm_with;
 use functions_powers::powm_with;
+use functions_roots::frechet_sqrtm_sylvester_with;
 use functions_roots::frechet_sqrtm_with;
 use functions_roots::sqrtm_with;
 use functions_trigonometric::cosm_with;
 use functions_trigonometric::sinm_with;
 use sheet_encoding::line::put_answer;
+use sheet_encoding::parse::takes_direction;
 use sheet_encoding::reading::read_number;
 use sheet_encoding::reading::read_numbers;
 
@@ -56,7 +58,7 @@ fn value(code: usize, n: usize, a: &[f64], p: f64, x: &mut [f64], w: &mut [f64])
     sinm_with(n, n, a, x, w, false)
 }
 
-// The function with a code from 6 to 8 of the n by n matrix a and its derivative in the direction e are written to x and y.
+// The function with a code of 6 to 8 or 10 of the n by n matrix a and its derivative in the direction e are written to x and y.
 fn derivative(
     code: usize,
     n: usize,
@@ -76,7 +78,10 @@ fn derivative(
     if code == 7 {
         return frechet_logm_with(n, n, a, n, n, e, x, y, w, false);
     }
-    frechet_sqrtm_with(n, n, a, n, n, e, x, y, w, false)
+    if code == 8 {
+        return frechet_sqrtm_with(n, n, a, n, n, e, x, y, w, false);
+    }
+    frechet_sqrtm_sylvester_with(n, n, a, n, n, e, x, y, w, false)
 }
 
 // The exponent at p where the code is 3.
@@ -112,7 +117,7 @@ fn value_line(
     put_answer(out, at, task, outcome, x, &[], report.smallest)
 }
 
-// The line of a code from 6 to 8 with its index. The direction is read to e.
+// The line of a code of 6 to 8 or 10 with its index. The direction is read to e.
 fn derivative_line(
     s: &[u8],
     code: usize,
@@ -184,7 +189,7 @@ pub fn run_task(
     if code < 6 {
         return value_line(s, code, index, n, d, out, at, task, a, x, w);
     }
-    if code < 9 {
+    if takes_direction(code) {
         return derivative_line(s, code, index, n, out, at, task, a, e, x, y, w);
     }
     condition_line(out, at, task, n, a, w)

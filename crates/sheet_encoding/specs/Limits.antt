@@ -7,7 +7,7 @@ taskLimit = 16
 
 -- the codes are those below
 abbrev pub codeLimit : ℕ
-codeLimit = 10
+codeLimit = 11
 
 -- The most bytes of a line: 2 digits of a task's number, 3 bytes for ` ok`, a space and 2 digits of halvings, 128 numbers of the outputs and the one of the
 -- report, each of 17 bytes with its space, and the newline.

@@ -2,7 +2,7 @@
 -- presence is asked before its range. Definitions only.
 use Prim.Native.Nat.{ℕ, zero, suc, _+_, _*_, _≤_, _<_}
 use mathlib.Core.Path.{_≡_}
-use mathlib.Core.Bool.{cond}
+use mathlib.Core.Bool.{Bool, cond, _&&_, _||_}
 use mathlib.Core.List.{List}
 use lib.Dec.{ltb, leb, eqb}
 use lib.ListN.{length}
@@ -96,9 +96,13 @@ exponentCount s n d = section s (exponentsAt n d) 8
 abbrev pub taskCount : List ℕ → ℕ → ℕ → ℕ → Read
 taskCount s n d e = byteIn s (tasksAt n d e) 1 (suc taskLimit)
 
--- how many values the index of a task may have: it names an exponent for code 3, a direction for 6 to 8, and is 0 otherwise
+-- the codes whose index names a direction: 6 to 8, and 10
+abbrev pub takesDirection : ℕ → Bool
+takesDirection code = eqb code 10 || (leb 6 code && leb code 8)
+
+-- how many values the index of a task may have: it names an exponent for code 3, a direction where `takesDirection` says so, and is 0 otherwise
 abbrev pub indexLimit : ℕ → ℕ → ℕ → ℕ
-indexLimit code d e = cond (eqb code 3) e (cond (leb 6 code) (cond (leb code 8) d 1) 1)
+indexLimit code d e = cond (eqb code 3) e (cond (takesDirection code) d 1)
 
 -- the task at q: its code, and its index
 unfoldable pub task : List ℕ → ℕ → ℕ → ℕ → Read

@@ -2,7 +2,7 @@
 ghost use mathlib.Core.Path.{_≡_};
 ghost use Prim.Native.Nat.{_+_, _*_, _≤_, _<_};
 ghost use Rattle.sheet_encoding.specs.Limits.{taskLimit};
-ghost use Rattle.sheet_encoding.specs.Parse.{directionsAt, exponentsAt, tasksAt, sheetLength, byteIn, bytesAfter, indexLimit, parseEnd, parseEach, parseTasks, parseExponents, parseDirections, parseSheet, order as orderOf, section as sectionOf, task as taskOf, tasks as tasksOf};
+ghost use Rattle.sheet_encoding.specs.Parse.{directionsAt, exponentsAt, tasksAt, sheetLength, byteIn, bytesAfter, takesDirection, indexLimit, parseEnd, parseEach, parseTasks, parseExponents, parseDirections, parseSheet, order as orderOf, section as sectionOf, task as taskOf, tasks as tasksOf};
 ghost use Rattle.sheet_encoding.specs.Kernels.{valueOf};
 
 // Why a sheet is refused: the position of the first missing or extra byte, or that of a count, code or index out of range.
@@ -10,6 +10,9 @@ pub enum SheetRefusal {
     ByteMissingOrExtra(usize),
     OutOfRange(usize),
 }
+
+// The codes of tasks are those below.
+const CODE_LIMIT: usize = 11;
 
 // A byte's value, or why the sheet is refused.
 pub enum Read {
@@ -78,6 +81,13 @@ fn section(s: &[u8], p: usize, size: usize) -> Read
     bytes_after(s, p + 1, v * size, v)
 }
 
+// Whether the index of a task with this code names a direction.
+pub fn takes_direction(code: usize) -> bool
+    ensures { λ r. ⌜ r ≡ takesDirection code ⌝ }
+{
+    code == 10 || (6 <= code && code <= 8)
+}
+
 // How many values the index of a task may have.
 fn index_limit(code: usize, d: usize, e: usize) -> usize
     ensures { λ r. ⌜ r ≡ indexLimit code d e ⌝ }
@@ -85,13 +95,7 @@ fn index_limit(code: usize, d: usize, e: usize) -> usize
     if code == 3 {
         return e;
     }
-    if code < 6 {
-        return 1;
-    }
-    if 8 < code {
-        return 1;
-    }
-    d
+    if takes_direction(code) { d } else { 1 }
 }
 
 // One task: its code and its index.
@@ -99,7 +103,7 @@ fn task(s: &[u8], q: usize, d: usize, e: usize) -> Read
     requires { ⌜ q ≤ 10000 ⌝ }
     ensures { λ r. ⌜ r ≡ taskOf (now (s .entry)) q d e ⌝ }
 {
-    let code = byte_in(s, q, 0, 10);
+    let code = byte_in(s, q, 0, CODE_LIMIT);
     let Read::Value(v) = code else {
         return code;
     };

@@ -66,7 +66,14 @@ fn run_text(text: &[u8]) {
     let c = report(Function::FrechetLogm, b"frechet_logm", text, b.at, b.line);
     let d = report(Function::FrechetSqrtm, b"frechet_sqrtm", text, c.at, c.line);
     let e = report(Function::CondExpm, b"cond_expm", text, d.at, d.line);
-    write_rest(text, e);
+    let f = report(
+        Function::FrechetSqrtmSylvester,
+        b"frechet_sqrtm_sylvester",
+        text,
+        e.at,
+        e.line,
+    );
+    write_rest(text, f);
 }
 
 // Reads the whole text, for which there is room, and runs its vectors.

@@ -7,6 +7,7 @@ use functions32::expm;
 use functions32::frechet_expm;
 use functions32::frechet_logm;
 use functions32::frechet_sqrtm;
+use functions32::frechet_sqrtm_sylvester;
 use functions32::logm;
 use functions32::powm;
 use functions32::sinm;
@@ -32,6 +33,7 @@ pub enum Function {
     FrechetLogm,
     FrechetSqrtm,
     CondExpm,
+    FrechetSqrtmSylvester,
 }
 
 // Room for a matrix, each number as it is lent.
@@ -179,6 +181,31 @@ fn cond_expm_agrees(shape: Shape, a: &[f32], w: &mut [f32], want: &[u8]) -> bool
     same_values(want, outcome, report, &values, w)
 }
 
+fn frechet_sqrtm_sylvester_agrees(
+    shape: Shape,
+    a: &[f32],
+    e: &[f32],
+    first: &mut [f32],
+    second: &mut [f32],
+    w: &mut [f32],
+    want: &[u8],
+) -> bool {
+    let answer = frechet_sqrtm_sylvester(
+        shape.rows,
+        shape.columns,
+        a,
+        shape.height,
+        shape.width,
+        e,
+        first,
+        second,
+        w,
+    );
+    let outcome = answer.outcome;
+    let report = answer.report;
+    same_call(want, outcome, report, first, second, &[], w)
+}
+
 // Makes the call with what is lent; `want` is its outcome.
 fn agrees(
     function: Function,
@@ -201,6 +228,15 @@ fn agrees(
         Function::FrechetLogm => frechet_logm_agrees(shape, a, e, first, second, w, want),
         Function::FrechetSqrtm => frechet_sqrtm_agrees(shape, a, e, first, second, w, want),
         Function::CondExpm => cond_expm_agrees(shape, a, w, want),
+        Function::FrechetSqrtmSylvester => frechet_sqrtm_sylvester_agrees(
+            shape,
+            a,
+            e,
+            first,
+            second,
+            w,
+            want,
+        ),
     }
 }
 

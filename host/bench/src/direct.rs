@@ -11,6 +11,7 @@ use std::time::Duration;
 use vectors::answer::answer;
 use vectors::call::{Call, FUNCTIONS, Function, Function::*};
 use vectors::random::Random;
+use vectors::sylvester::frechet_sqrtm_sylvester;
 use vectors::width::Width;
 
 /// What is timed: a name, the function, and the exponent of powm.
@@ -69,6 +70,7 @@ fn source<T: Width>(c: &Call<T>, lu: &Option<Lu<T>>) {
         FrechetLogm => drop(black_box(oracle::frechet_logm(n, n, a, n, n, e))),
         FrechetSqrtm => drop(black_box(oracle::frechet_sqrtm(n, n, a, n, n, e))),
         CondExpm => drop(black_box(oracle::cond_expm(n, n, a))),
+        FrechetSqrtmSylvester => drop(black_box(frechet_sqrtm_sylvester(n, a, e))),
         LuCompute => drop(black_box(Lu::compute(n, n, a))),
         LuSolve => drop(black_box(factored().solve(n, n, e))),
         LuDeterminant => drop(black_box(factored().determinant())),

@@ -2,7 +2,7 @@
 
 use compare::sheet::{Sheet, Task};
 
-/// What is timed: the ten functions, powm by an integer and by a fraction.
+/// What is timed: the eleven functions, powm by an integer and by a fraction.
 pub struct Timed {
     pub name: &'static str,
     pub code: usize,
@@ -16,7 +16,7 @@ const fn timed(name: &'static str, code: usize, exponent: f64, least: usize) -> 
     Timed { name, code, exponent, least }
 }
 
-pub const TIMED: [Timed; 11] = [
+pub const TIMED: [Timed; 12] = [
     timed("expm", 0, 1.0, 2),
     timed("logm", 1, 1.0, 2),
     timed("sqrtm", 2, 1.0, 1),
@@ -28,6 +28,7 @@ pub const TIMED: [Timed; 11] = [
     timed("frechet_logm", 7, 1.0, 2),
     timed("frechet_sqrtm", 8, 1.0, 1),
     timed("cond_expm", 9, 1.0, 1),
+    timed("frechet_sqrtm_sylvester", 10, 1.0, 1),
 ];
 
 impl Timed {

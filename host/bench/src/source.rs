@@ -6,6 +6,7 @@ use std::hint::black_box;
 use vectors::answer::answer;
 use vectors::call::{Function::*, word};
 use vectors::norms::{block, even_direction, halvings, one_norm};
+use vectors::sylvester::frechet_sqrtm_sylvester;
 
 /// The outputs of a task, one after the other.
 fn outputs(s: &Sheet, task: Task) -> Vec<f64> {
@@ -26,6 +27,7 @@ fn outputs(s: &Sheet, task: Task) -> Vec<f64> {
         FrechetLogm => oracle::frechet_logm(n, n, a, n, n, e()).map(both),
         FrechetSqrtm => oracle::frechet_sqrtm(n, n, a, n, n, e()).map(both),
         CondExpm => oracle::cond_expm(n, n, a).map(|ratio| vec![ratio]),
+        FrechetSqrtmSylvester => frechet_sqrtm_sylvester(n, a, e()).map(both),
         other => panic!("{} has no code", other.name()),
     }
     .expect("the sheets that are timed are answered")

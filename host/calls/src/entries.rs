@@ -103,6 +103,9 @@ macro_rules! linked {
                 #[link_name = concat!("entry_frechet_sqrtm", $suffix)]
                 fn frechet_sqrtm(m: usize, n: usize, a: Read, al: usize, k: usize, l: usize, e: Read, el: usize,
                     x: Write, xl: usize, y: Write, yl: usize, w: Write, wl: usize, r: Report, rl: usize) -> u64;
+                #[link_name = concat!("entry_frechet_sqrtm_sylvester", $suffix)]
+                fn frechet_sqrtm_sylvester(m: usize, n: usize, a: Read, al: usize, k: usize, l: usize, e: Read, el: usize,
+                    x: Write, xl: usize, y: Write, yl: usize, w: Write, wl: usize, r: Report, rl: usize) -> u64;
                 #[link_name = concat!("entry_cond_expm", $suffix)]
                 fn cond_expm(m: usize, n: usize, a: Read, al: usize, w: Write, wl: usize, v: Write, vl: usize, r: Report, rl: usize) -> u64;
                 #[link_name = concat!("entry_compute", $suffix)]
@@ -150,6 +153,9 @@ macro_rules! linked {
                         FrechetLogm => frechet_logm(m, n, a, al, k, l, e, el, x, xl, y, yl, w, wl, r, rl),
                         FrechetSqrtm => frechet_sqrtm(m, n, a, al, k, l, e, el, x, xl, y, yl, w, wl, r, rl),
                         CondExpm => cond_expm(m, n, a, al, w, wl, v, vl, r, rl),
+                        FrechetSqrtmSylvester => {
+                            frechet_sqrtm_sylvester(m, n, a, al, k, l, e, el, x, xl, y, yl, w, wl, r, rl)
+                        }
                         LuCompute => compute(m, n, a, al, x, xl, p, pl, w, wl, r, rl),
                         LuSolve => solve(m, n, a, al, q, ql, k, l, e, el, x, xl, r, rl),
                         LuDeterminant => determinant(m, n, a, al, q, ql, v, vl, r, rl),

@@ -17,7 +17,7 @@ struct Calls {
 }
 
 #[derive(Clone, Default)]
-pub struct Tally([Calls; 15]);
+pub struct Tally([Calls; FUNCTIONS.len()]);
 
 impl Tally {
     pub fn add<T>(&mut self, call: &Call<T>, outcome: &Outcome<T>, verdict: Verdict) {
@@ -64,10 +64,10 @@ impl Tally {
 
 impl fmt::Display for Tally {
     fn fmt(&self, f: &mut fmt::Formatter) -> fmt::Result {
-        writeln!(f, "{:<15}{:>9}{:>10}  refused (number: count)", "function", "done", "left out")?;
+        writeln!(f, "{:<24}{:>9}{:>10}  refused (number: count)", "function", "done", "left out")?;
         for (calls, (_, name)) in self.0.iter().zip(FUNCTIONS) {
             let refused: Vec<String> = calls.refused.iter().map(|(number, n)| format!("{number}: {n}")).collect();
-            writeln!(f, "{name:<15}{:>9}{:>10}  {}", calls.done, calls.left_out, refused.join(", "))?;
+            writeln!(f, "{name:<24}{:>9}{:>10}  {}", calls.done, calls.left_out, refused.join(", "))?;
         }
         write!(f, "calls: {} compared, {} of them refused; ", self.compared(), self.refused())?;
         write!(f, "{} left out near powers of two", self.left_out())?;

@@ -7,9 +7,10 @@ use calls::make::{Trial, trial, written};
 use calls::run::{judge, run};
 use oracle::Lu;
 use vectors::answer::answer;
-use vectors::call::{Call, FUNCTIONS, Function, Function::*, Outcome, Refusal};
+use vectors::call::{Call, FUNCTIONS, Function, Function::*, Outcome, Refusal, word};
 use vectors::given::given;
 use vectors::reports::{Iteration, Part, Part::*, Run, repeated, settled, smallest, smallest_pivot, steps};
+use vectors::sylvester::{layout, transposed};
 use vectors::width::Width;
 
 /// Trials, with the outcome that each must have.
@@ -52,7 +53,8 @@ impl<T: Width> Tries<T> {
             (t, outcome)
         };
         // Those that are written out have steps that run out, or settle in the last pass.
-        let iterated = [Logm, Sqrtm, Powm, FrechetLogm, FrechetSqrtm].into_iter().flat_map(given).map(written);
+        let iterated = FUNCTIONS.into_iter().map(|(function, _)| function).filter(|f| f.iterates());
+        let iterated = iterated.flat_map(given).map(written);
         Tries((0..3000).map(|k| trial(1, k)).chain(iterated).map(tried).collect())
     }
 
@@ -168,8 +170,8 @@ fn wrong_smallest<T: Width>(tries: &Tries<T>) {
             assert!(fault.contains(&format!("number: {number},")), "{fault}");
         }
     }
-    // What was factored before the refusal, in a square root's first pass or in a logarithm.
-    for wrong in [Sqrtm, Logm, FrechetLogm, Powm] {
+    // What was factored before the refusal, in a square root's first pass, in a root whose system is refused, or in a logarithm.
+    for wrong in [Sqrtm, Logm, FrechetLogm, FrechetSqrtmSylvester, Powm] {
         let change = |call: &Call<T>, _: &mut Lent<T>, told: &mut Told| {
             if call.function == wrong && told.number == 13 {
                 told.smallest = smallest(&repeated(call, None).factorings).to_bits()
@@ -203,8 +205,8 @@ fn wrong_steps<T: Width>(tries: &Tries<T>) {
             assert!(fault.contains(&format!("number: {number},")), "{fault}");
         }
     }
-    // What was counted before the refusal, in a logarithm's first roots or in the first logarithm.
-    for wrong in [Logm, FrechetLogm, Powm] {
+    // What was counted before the refusal, in a logarithm's first roots, in the first logarithm, or in a root whose system is refused.
+    for wrong in [Logm, FrechetLogm, FrechetSqrtmSylvester, Powm] {
         let change = |call: &Call<T>, _: &mut Lent<T>, told: &mut Told| {
             if call.function == wrong && told.number == 13 {
                 told.steps = steps(&repeated(call, None).iterations)
@@ -278,7 +280,7 @@ fn wrong_factorings<T: Width>(tries: &Tries<T>) {
     let places = |all: Vec<T>, is_kept: &dyn Fn(usize) -> bool| -> Vec<T> {
         all.into_iter().enumerate().filter(|(k, _)| is_kept(*k)).map(|(_, x)| x).collect()
     };
-    for several in [Logm, Sqrtm, FrechetLogm, FrechetSqrtm, Powm] {
+    for several in [Logm, Sqrtm, FrechetLogm, FrechetSqrtm, FrechetSqrtmSylvester, Powm] {
         found(several, &|_, all| places(all, &|k| k == 0));
         found(several, &|_, all| all.last().copied().into_iter().collect());
         found(several, &|_, all| places(all, &|k| k > 0));
@@ -289,8 +291,9 @@ fn wrong_factorings<T: Width>(tries: &Tries<T>) {
     // One logarithm alone; the root without the system of its derivative; the logarithm without the exponential, and the other way round.
     found(FrechetLogm, &|call, all| all[..of_first_logarithm(call)].to_vec());
     found(FrechetLogm, &|call, all| all[of_first_logarithm(call)..].to_vec());
-    found(FrechetSqrtm, &|_, all| all[..all.len().saturating_sub(1)].to_vec());
-    found(Powm, &|_, all| all[..all.len().saturating_sub(1)].to_vec());
+    for last in [FrechetSqrtm, FrechetSqrtmSylvester, Powm] {
+        found(last, &|_, all| all[..all.len().saturating_sub(1)].to_vec());
+    }
     // None, and one that is not made, of the matrix.
     for one in [Expm, FrechetExpm, CondExpm, LuCompute] {
         found(one, &|_, _| Vec::new());
@@ -354,7 +357,7 @@ fn found_by_iterations<T: Width>(tries: &Tries<T>, wrong: Function, counted: Cou
 /// Reports of roots' and logarithms' iterations that are counted otherwise, or are settled otherwise.
 fn wrong_iterations<T: Width>(tries: &Tries<T>) {
     let found = |wrong: Function, counted: Counted<T>| found_by_iterations(tries, wrong, counted);
-    for root in [Sqrtm, FrechetSqrtm] {
+    for root in [Sqrtm, FrechetSqrtm, FrechetSqrtmSylvester] {
         found(root, &|_, all| each(Root, last_left_out, all));
         found(root, &|_, all| each(Root, always_settled, all));
     }
@@ -384,7 +387,7 @@ fn wrong_iterations<T: Width>(tries: &Tries<T>) {
     found(Logm, &|_, all| others(all, all.iter().position(|x| x.part == Newton)));
     found(Logm, &|_, all| others(all, all.iter().rposition(|x| x.part == Newton)));
     // Where there is no iteration: a step, and not settled.
-    for none in [Sqrtm, FrechetSqrtm, Powm] {
+    for none in [Sqrtm, FrechetSqrtm, FrechetSqrtmSylvester, Powm] {
         for (steps, settled) in [(1, true), (0, false)] {
             let another = [Iteration { part: Root, steps, settled }];
             found(none, &|_, all| if all.is_empty() { another.to_vec() } else { all.to_vec() });
@@ -404,6 +407,60 @@ fn wrong_logarithms<T: Width>(tries: &Tries<T>) {
     found(&|call, all| settled_by(all, settled(&all[..split(call)])));
     found(&|call, all| settled_by(all, settled(&all[split(call)..])));
     found(&|call, all| settled_by(all, settled(&all[..split(call)]) || settled(&all[split(call)..])));
+}
+
+/// A system of order n × n, made of a root of order n.
+type System<'a, T> = &'a dyn Fn(usize, &[T]) -> Vec<T>;
+
+/// What a call of frechet_sqrtm_sylvester that is done would give by another system: the derivative and the smallest pivot. Of another call, at order 1 and
+/// where LU refuses the system none.
+fn by_system<T: Width>(call: &Call<T>, system: System<T>) -> Option<(Vec<T>, f64)> {
+    let n = call.rows;
+    if call.function != FrechetSqrtmSylvester || n == 1 {
+        return None;
+    }
+    let Outcome::Done(done) = answer(call) else { return None };
+    let lu = Lu::compute(n * n, n * n, &system(n, &done.outputs[0])).ok()?;
+    let columns = lu.solve(n * n, 1, &transposed(n, &call.companion)).ok()?;
+    let mut factorings = repeated(call, Some(&done.outputs)).factorings;
+    *factorings.last_mut()? = smallest_pivot(n * n, &lu.factors());
+    Some((transposed(n, &columns), smallest(&factorings)))
+}
+
+/// The stand-in is found at a call of frechet_sqrtm_sylvester whose root is not symmetric.
+#[track_caller]
+fn found_at_nonsymmetric<T: Width>(tries: &Tries<T>, change: impl Fn(&Call<T>, &mut Lent<T>, &mut Told)) {
+    let (call, _) = tries.found(change);
+    assert_eq!(call.function, FrechetSqrtmSylvester);
+    let root = oracle::sqrtm(call.rows, call.rows, &call.matrix).expect("the root is not refused");
+    let words = |a: &[T]| a.iter().map(|x| word(*x)).collect::<Vec<u64>>();
+    assert_ne!(words(&root), words(&transposed(call.rows, &root)));
+}
+
+/// Other systems than that of S X + X S: S X + X S', frechet_sqrtm's own; S' X + X S; and S' X + X S', with both terms transposed. The derivative of
+/// each is found, and so is its smallest pivot beside the right derivative.
+fn wrong_systems<T: Width>(tries: &Tries<T>) {
+    let source: System<T> = &|n, s| layout(n, s, s);
+    let first: System<T> = &|n, s| layout(n, &transposed(n, s), &transposed(n, s));
+    let both: System<T> = &|n, s| layout(n, &transposed(n, s), s);
+    for system in [source, first, both] {
+        found_at_nonsymmetric(tries, |call, lent, _| {
+            if let Some((derivative, _)) = by_system(call, system) {
+                put(&mut lent.outputs[1], &derivative)
+            }
+        });
+        found_at_nonsymmetric(tries, |call, _, told| {
+            if let Some((_, pivot)) = by_system(call, system) {
+                told.smallest = pivot.to_bits()
+            }
+        });
+    }
+    // The whole call as frechet_sqrtm, where the system is refused.
+    found_at_nonsymmetric(tries, |call, lent, told| {
+        if call.function == FrechetSqrtmSylvester && told.number == 13 {
+            *told = stand_in(&answer(&Call { function: FrechetSqrtm, ..call.clone() }), call, lent)
+        }
+    });
 }
 
 /// A change of one NaN's sign, payload or kind that is left is found, and so is a number of the workspace that is not cleared, or is.
@@ -516,6 +573,7 @@ fn harness<T: Width>() {
     wrong_steps(&tries);
     wrong_iterations(&tries);
     wrong_logarithms(&tries);
+    wrong_systems(&tries);
     wrong_leavings(&tries);
     beside_the_slices(&tries);
     outside_the_compared_domain(&tries);

@@ -27,7 +27,7 @@ fn refusals(function: Function) -> &'static [usize] {
         Powm => &[1, 2, 4, 5, 6, 8, 11, 12, 13, 17],
         FrechetExpm => &[1, 2, 3, 4, 5, 6, 7, 12, 17],
         FrechetLogm => &[1, 2, 3, 4, 5, 6, 7, 10, 11, 13],
-        FrechetSqrtm => &[1, 2, 3, 4, 5, 6, 7, 10, 13],
+        FrechetSqrtm | FrechetSqrtmSylvester => &[1, 2, 3, 4, 5, 6, 7, 10, 13],
         CondExpm => &[1, 2, 4, 5, 6, 12, 17],
         LuCompute => &[2, 4, 5, 14],
         LuSolve => &[2, 3, 4, 5, 9],

@@ -2,7 +2,7 @@
 
 use crate::entry::ROOM;
 use crate::sheet::{Sheet, Task};
-use vectors::call::Function;
+use vectors::call::{CODES, Function};
 use vectors::cases::{direction, exponent};
 use vectors::matrices::{matrix, spoil};
 use vectors::random::Random;
@@ -17,9 +17,9 @@ pub struct Trial {
 const EXPONENTS: [f64; 13] =
     [0.0, 1.0, -1.0, 13.0, -7.0, 2.5, 0.5, 1e-15, 1e19, -1e19, f64::NAN, f64::INFINITY, f64::NEG_INFINITY];
 
-/// The codes of tasks, and those of the square root and its derivative.
-const ALL: [usize; 10] = [0, 1, 2, 3, 4, 5, 6, 7, 8, 9];
-const ROOTS: [usize; 2] = [2, 8];
+/// The codes of tasks, and those of the square root and its derivatives.
+const ALL: [usize; CODES] = [0, 1, 2, 3, 4, 5, 6, 7, 8, 9, 10];
+const ROOTS: [usize; 3] = [2, 8, 10];
 
 fn task(codes: &[usize], directions: usize, exponents: usize, r: &mut Random) -> Task {
     loop {
@@ -61,17 +61,25 @@ fn place(sheet: &Sheet, length: usize, r: &mut Random) -> usize {
     if r.once_in(2) { r.pick(&sheet.marks()) } else { r.below(length) }
 }
 
-/// The sheet's bytes, cut, with a byte added, taken out or changed, or with many bytes added.
+/// Another code for one of the tasks: the last one, which may have no direction to name, or the next number, which is none.
+fn recode(sheet: &Sheet, bytes: &mut [u8], r: &mut Random) {
+    let at = bytes.len() - 2 * (1 + r.below(sheet.tasks.len()));
+    let last = CODES as u8 - 1;
+    bytes[at] = if sheet.directions.is_empty() { last } else { r.pick(&[last, last + 1]) };
+}
+
+/// The sheet's bytes, cut, with a byte added, taken out or changed, with another code, or with many bytes added.
 fn damaged(sheet: &Sheet, r: &mut Random) -> Vec<u8> {
     let mut bytes = sheet.bytes();
     let at = place(sheet, bytes.len(), r);
-    match r.below(7) {
+    match r.below(9) {
         0 => bytes.truncate(at),
         1 => bytes.truncate(bytes.len() - 1),
         2 => bytes.push(r.below(256) as u8),
         3 => bytes.insert(at, r.below(256) as u8),
         4 => drop(bytes.remove(at)),
         5 => bytes.extend((0..r.below(8192)).map(|_| r.below(256) as u8)),
+        6..=7 => recode(sheet, &mut bytes, r),
         _ => bytes[at] = if r.once_in(2) { r.below(20) as u8 } else { r.below(256) as u8 },
     }
     bytes

@@ -1,9 +1,15 @@
 //! Sample sheets, with names for their files.
 
 use crate::sheet::{Sheet, Task};
+use vectors::call::CODES;
 
 fn tasks(tasks: &[(usize, usize)]) -> Vec<Task> {
     tasks.iter().map(|(code, index)| Task { code: *code, index: *index }).collect()
+}
+
+/// A task of each code, with the index 0.
+fn every_code() -> Vec<Task> {
+    (0..CODES).map(|code| Task { code, index: 0 }).collect()
 }
 
 /// The 46 bytes at the end of document 01's bench: [[1, 1], [0, 1]] to the power 3.
@@ -16,8 +22,7 @@ fn shear() -> Sheet {
 fn every_function() -> Sheet {
     let matrix = vec![2.0, 0.5, 0.0, 0.5, 3.0, 0.25, 0.0, 0.25, 1.5];
     let directions = vec![vec![0.0, 1.0, 0.0, 0.0, 0.0, 1.0, 0.0, 0.0, 0.0]];
-    let codes: Vec<(usize, usize)> = (0..10).map(|code| (code, 0)).collect();
-    Sheet { order: 3, matrix, directions, exponents: vec![2.5], tasks: tasks(&codes) }
+    Sheet { order: 3, matrix, directions, exponents: vec![2.5], tasks: every_code() }
 }
 
 /// Tasks that are refused between tasks that are done: of order 2 with a singular matrix, a direction and an exponent that are not finite.
@@ -30,8 +35,13 @@ fn refusals() -> Sheet {
 
 /// Order 1: 11 where a function of a number would be needed, and the roots, derivatives and condition that are answered.
 fn order_1() -> Sheet {
-    let codes: Vec<(usize, usize)> = (0..10).map(|code| (code, 0)).collect();
-    Sheet { order: 1, matrix: vec![4.0], directions: vec![vec![1.0]], exponents: vec![0.5], tasks: tasks(&codes) }
+    Sheet { order: 1, matrix: vec![4.0], directions: vec![vec![1.0]], exponents: vec![0.5], tasks: every_code() }
+}
+
+/// Both derivatives of a root that is not symmetric.
+fn nonsymmetric() -> Sheet {
+    let (matrix, direction) = (vec![3.0, 0.0, 2.0, 4.0], vec![0.5, 0.0, 1.0, 0.25]);
+    Sheet { order: 2, matrix, directions: vec![direction], exponents: vec![], tasks: tasks(&[(8, 0), (10, 0)]) }
 }
 
 /// Square roots of a number and nothing else.
@@ -68,12 +78,13 @@ pub fn samples() -> Vec<(&'static str, Vec<u8>)> {
     let mut cut = shear().bytes();
     cut.truncate(20);
     let mut bad_code = shear().bytes();
-    bad_code[44] = 10;
+    bad_code[44] = CODES as u8;
     vec![
         ("shear", shear().bytes()),
         ("every_function", every_function().bytes()),
         ("refusals", refusals().bytes()),
         ("order_1", order_1().bytes()),
+        ("nonsymmetric", nonsymmetric().bytes()),
         ("roots", roots().bytes()),
         ("zero", zero().bytes()),
         ("too_many_halvings", too_many_halvings().bytes()),

@@ -1,6 +1,6 @@
 //! A sheet as document 01 lays it out, its bytes, and a reader of bytes that asks document 01's questions 15 and 16.
 
-use vectors::call::{Call, FUNCTIONS, Function, Refusal};
+use vectors::call::{CODES, Call, FUNCTIONS, Function, Refusal};
 
 /// A task: the code of a function, and the index of a direction or of an exponent.
 #[derive(Clone, Copy, Debug, PartialEq, Eq)]
@@ -98,7 +98,7 @@ impl Reader<'_> {
     }
 
     fn task(&mut self, directions: usize, exponents: usize) -> Result<Task, Refusal> {
-        let code = self.within(0, 10)?;
+        let code = self.within(0, CODES)?;
         let indices = match FUNCTIONS[code].0 {
             Function::Powm => exponents,
             f if f.directed() => directions,

@@ -3,7 +3,7 @@
 use crate::expected::{Expected, Line};
 use std::collections::BTreeMap;
 use std::fmt;
-use vectors::call::{FUNCTIONS, Outcome, Refusal};
+use vectors::call::{CODES, FUNCTIONS, Outcome, Refusal};
 
 /// The tasks of one function.
 #[derive(Clone, Default)]
@@ -19,7 +19,7 @@ pub struct Tally {
     short: usize,
     agreeing: usize,
     refused: BTreeMap<usize, usize>,
-    tasks: [Tasks; 10],
+    tasks: [Tasks; CODES],
 }
 
 impl Tally {
@@ -81,9 +81,9 @@ fn listed(refusals: &BTreeMap<usize, usize>) -> String {
 
 impl fmt::Display for Tally {
     fn fmt(&self, f: &mut fmt::Formatter) -> fmt::Result {
-        writeln!(f, "{:<14}{:>9}{:>10}  refused (number: count)", "function", "done", "left out")?;
+        writeln!(f, "{:<24}{:>9}{:>10}  refused (number: count)", "function", "done", "left out")?;
         for (tasks, (_, name)) in self.tasks.iter().zip(FUNCTIONS) {
-            writeln!(f, "{name:<14}{:>9}{:>10}  {}", tasks.done, tasks.left_out, listed(&tasks.refused))?;
+            writeln!(f, "{name:<24}{:>9}{:>10}  {}", tasks.done, tasks.left_out, listed(&tasks.refused))?;
         }
         writeln!(f, "sheets: {}; refused {}; output too short: {}", self.sheets, listed(&self.refused), self.short)?;
         writeln!(f, "all refusals: {}", listed(&self.refusals()))?;

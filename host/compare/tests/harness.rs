@@ -3,7 +3,9 @@
 use compare::entry::{Entry, ROOM};
 use compare::expected::{Line, expected};
 use compare::run::{Difference, run};
-use compare::sheet::{Sheet, read};
+use compare::sheet::{Sheet, Task, read};
+use vectors::answer::answer;
+use vectors::call::{CODES, Outcome, Refusal};
 
 /// The expected lines; for a task where the source counts other halvings, a line of the right shape.
 fn text(bytes: &[u8], lent: usize) -> String {
@@ -53,7 +55,7 @@ fn a_right_entry_passes() {
     let tally = run(&stand_in, 1, 0..400, |_, _| {}).unwrap_or_else(|d| panic!("{d}"));
     println!("{tally}");
     assert_eq!(tally.sheets, 400);
-    assert!((0..10).all(|code| tally.done(code) > 20), "{tally}");
+    assert!((0..CODES).all(|code| tally.done(code) > 20), "{tally}");
     let refusals = tally.refusals();
     assert_eq!(Vec::from_iter(refusals.keys().copied()), [5, 6, 7, 8, 10, 11, 12, 13, 15, 16, 17], "{tally}");
     assert!(tally.left_out() > 0 && tally.left_out() * 10 < tally.compared(), "{tally}");
@@ -95,6 +97,79 @@ fn a_wrong_sine_is_found() {
     assert_eq!((sheet.directions.len(), sheet.exponents.len()), (0, 0), "{d}");
     // The zero matrix does not show it: the norm + 1 is then a power of two.
     assert_eq!(sheet.matrix.iter().filter(|x| **x != 0.0).count(), 1, "{d}");
+}
+
+/// Code 10 answered as code 8: the least sheet has order 2, one direction, and a root that is not symmetric.
+#[test]
+fn the_other_derivative_is_found() {
+    let other = |task: &Task| Task { code: if task.code == 10 { 8 } else { task.code }, ..*task };
+    let d = changed(|bytes, right| match read(bytes) {
+        Ok(sheet) if !right.is_empty() => {
+            let tasks = sheet.tasks.iter().map(other).collect();
+            text(&Sheet { tasks, ..sheet }.bytes(), ROOM)
+        }
+        _ => right,
+    });
+    let sheet = shrunk(&d);
+    assert_eq!((sheet.order, sheet.tasks.len(), sheet.tasks[0].code), (2, 1, 10), "{d}");
+    assert_eq!((sheet.directions.len(), sheet.exponents.len()), (1, 0), "{d}");
+    let Outcome::Done(done) = answer(&sheet.call(sheet.tasks[0])) else { panic!("{d}") };
+    assert_ne!(done.outputs[0][1].to_bits(), done.outputs[0][2].to_bits(), "{d}");
+}
+
+/// The line of a sheet with its first byte out of range at this position.
+fn out_of_range(at: usize) -> String {
+    format!("0 no 16 {at} 0\n")
+}
+
+/// The position of the first task that is asked for, in an accepted sheet's bytes.
+fn position(bytes: &[u8], wanted: impl Fn(Task) -> bool) -> Option<usize> {
+    let sheet = read(bytes).ok()?;
+    let first = bytes.len() - 2 * sheet.tasks.len();
+    sheet.tasks.iter().position(|task| wanted(*task)).map(|k| first + 2 * k)
+}
+
+/// The index of code 10 held to 0, as where no direction is named: the least sheet has two directions, of which it names the second.
+#[test]
+fn an_index_limit_of_1_is_found() {
+    let d = changed(|bytes, text| match position(bytes, |task| task.code == 10 && task.index > 0) {
+        Some(at) if !text.is_empty() => out_of_range(at + 1),
+        _ => text,
+    });
+    let sheet = shrunk(&d);
+    assert_eq!((sheet.tasks.len(), sheet.tasks[0], sheet.directions.len()), (1, Task { code: 10, index: 1 }, 2), "{d}");
+}
+
+/// Code 10 refused, as it was before #106.
+#[test]
+fn a_limit_of_10_codes_is_found() {
+    let d = changed(|bytes, text| match position(bytes, |task| task.code == 10) {
+        Some(at) if !text.is_empty() => out_of_range(at),
+        _ => text,
+    });
+    assert_eq!(shrunk(&d).tasks[0].code, 10, "{d}");
+}
+
+/// Where a sheet is refused 16 at this distance after a code, the lines that it gives with the code of the square root in its place.
+fn taken(bytes: &[u8], code: u8, distance: usize) -> Option<String> {
+    let Err(Refusal(16, refused, 0)) = read(bytes) else { return None };
+    let at = refused.checked_sub(distance).filter(|at| bytes[*at] == code)?;
+    let mut other = bytes.to_vec();
+    other[at] = 2;
+    let first = position(&other, |_| true)?;
+    (at >= first && (at - first).is_multiple_of(2)).then(|| text(&other, ROOM))
+}
+
+/// Code 11, and code 10 where there is no direction, are taken for a code without an index.
+#[test]
+fn a_code_that_is_taken_is_found() {
+    for (code, distance) in [(11, 0), (10, 1)] {
+        let d = changed(|bytes, right| match taken(bytes, code, distance) {
+            Some(lines) if !right.is_empty() => lines,
+            _ => right,
+        });
+        assert!(d.fault.contains(" no 16 "), "{d}");
+    }
 }
 
 #[test]
@@ -198,7 +273,7 @@ fn a_misplaced_smallest_pivot_is_found() {
 /// For each code the smallest pivot, and nothing else, is wrong: plus infinity, or 1 where it is that.
 #[test]
 fn a_wrong_smallest_pivot_is_found() {
-    for code in 0..10 {
+    for code in 0..CODES {
         let d = changed(|bytes, text| {
             let Ok(sheet) = read(bytes) else { return text };
             let change = |fields: &mut Vec<&str>| {

@@ -47,11 +47,13 @@ fn cut_and_longer_sheets() {
 /// The counts stand at 0, 33, 34 and 43, the code at 44, the index at 45.
 #[test]
 fn bytes_out_of_range() {
-    for (at, byte) in [(0, 0), (0, 9), (33, 9), (34, 9), (43, 0), (43, 17), (44, 10), (45, 1)] {
+    for (at, byte) in [(0, 0), (0, 9), (33, 9), (34, 9), (43, 0), (43, 17), (44, 11), (44, 255), (45, 1)] {
         assert_eq!(refused(&changed(at, byte)), (16, at));
     }
-    // Code 6 with no direction to name, and expm with an index that is not 0.
-    assert_eq!(refused(&changed(44, 6)), (16, 45));
+    // Codes that name a direction, of which there is none, and expm with an index that is not 0.
+    for code in [6, 7, 8, 10] {
+        assert_eq!(refused(&changed(44, code)), (16, 45));
+    }
     let mut expm = changed(44, 0);
     assert!(read(&expm).is_ok());
     expm[45] = 1;
@@ -59,8 +61,8 @@ fn bytes_out_of_range() {
     // A second task is wanted and missing.
     assert_eq!(refused(&changed(43, 2)), (15, 46));
     // A code out of range before the index is missing, and before a byte too many.
-    assert_eq!(refused(&changed(44, 10)[..45]), (16, 44));
-    assert_eq!(refused(&[&changed(44, 10)[..], &[0]].concat()), (16, 44));
+    assert_eq!(refused(&changed(44, 11)[..45]), (16, 44));
+    assert_eq!(refused(&[&changed(44, 11)[..], &[0]].concat()), (16, 44));
 }
 
 #[test]
@@ -84,6 +86,23 @@ fn the_longest() {
     let length = |line: &Line| if let Line::Text(text) = line { text.len() + 1 } else { 0 };
     let written: usize = expected(&bytes, ROOM).lines().iter().map(length).sum();
     assert_eq!(written, 16 * 2202 - 16 - 9);
+}
+
+/// The index of code 10 names one of the sheet's directions.
+#[test]
+fn directions_of_code_10() {
+    let bytes = sample("nonsymmetric");
+    let last = bytes.len() - 1;
+    assert_eq!((bytes[last - 1], bytes[last]), (10, 0));
+    assert!(read(&bytes).is_ok());
+    assert_eq!(refused(&[&bytes[..last], &[1]].concat()), (16, last));
+    // A second direction, in front of the first.
+    let mut two = bytes.clone();
+    two[33] = 2;
+    two.splice(34..34, [0; 32]);
+    let last = two.len() - 1;
+    two[last] = 1;
+    assert_eq!(read(&two).map(|sheet| sheet.call(sheet.tasks[1]).companion), Ok(vec![0.5, 0.0, 1.0, 0.25]));
 }
 
 /// The files in samples/ are those that `compare samples` writes.

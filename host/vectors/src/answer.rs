@@ -1,4 +1,5 @@
-//! The answer of a call: document 01's questions and question 17 of document 02's #102, then the source, and the report of #103 and #105.
+//! The answer of a call: document 01's questions and question 17 of document 02's #102, then the source, or for #106 the source's root and its LU, and the
+//! report of #103 and #105.
 
 use crate::call::{Call, Done, Function::*, Outcome, Refusal};
 use crate::norms::{
@@ -6,6 +7,7 @@ use crate::norms::{
 };
 use crate::questions::asked;
 use crate::reports::{repeated, settled, smallest, steps, whole};
+use crate::sylvester::frechet_sqrtm_sylvester;
 use crate::width::Width;
 use oracle::{Lu, LuError, MatFunError};
 
@@ -103,6 +105,7 @@ fn computed<T: Width>(c: &Call<T>) -> Outcome<T> {
         FrechetExpm => halved(one_norm(2 * n, &block(n, a, e)), || two(oracle::frechet_expm(n, n, a, n, n, e))),
         FrechetLogm => plain(two(oracle::frechet_logm(n, n, a, n, n, e))),
         FrechetSqrtm => plain(two(oracle::frechet_sqrtm(n, n, a, n, n, e))),
+        FrechetSqrtmSylvester => plain(two(frechet_sqrtm_sylvester(n, a, e))),
         CondExpm => halved(one_norm(2 * n, &block(n, a, &even_direction(n))), || condition(n, a)),
         LuCompute => match Lu::compute(n, n, a) {
             Ok(lu) => Outcome::Done(Done {

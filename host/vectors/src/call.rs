@@ -15,6 +15,7 @@ pub enum Function {
     FrechetLogm,
     FrechetSqrtm,
     CondExpm,
+    FrechetSqrtmSylvester,
     LuCompute,
     LuSolve,
     LuDeterminant,
@@ -24,7 +25,8 @@ pub enum Function {
 
 use Function::*;
 
-pub const FUNCTIONS: [(Function, &str); 15] = [
+/// Those that have a code on a sheet come first, in the order of their codes.
+pub const FUNCTIONS: [(Function, &str); 16] = [
     (Expm, "expm"),
     (Logm, "logm"),
     (Sqrtm, "sqrtm"),
@@ -35,12 +37,16 @@ pub const FUNCTIONS: [(Function, &str); 15] = [
     (FrechetLogm, "frechet_logm"),
     (FrechetSqrtm, "frechet_sqrtm"),
     (CondExpm, "cond_expm"),
+    (FrechetSqrtmSylvester, "frechet_sqrtm_sylvester"),
     (LuCompute, "lu_compute"),
     (LuSolve, "lu_solve"),
     (LuDeterminant, "lu_determinant"),
     (Kron, "kron"),
     (KronSum, "kron_sum"),
 ];
+
+/// How many functions have a code.
+pub const CODES: usize = 11;
 
 impl Function {
     pub fn name(self) -> &'static str {
@@ -53,7 +59,16 @@ impl Function {
 
     /// The functions that have a code on a sheet.
     pub fn coded(self) -> bool {
-        (self as usize) <= CondExpm as usize
+        (self as usize) < CODES
+    }
+
+    /// The number that a function's random calls are made from. One that was added has the next number, so that the calls of the others are the same.
+    pub fn sequence(self) -> u64 {
+        match self {
+            FrechetSqrtmSylvester => 15,
+            LuCompute | LuSolve | LuDeterminant | Kron | KronSum => self as u64 - 1,
+            _ => self as u64,
+        }
     }
 
     pub fn lu(self) -> bool {
@@ -65,7 +80,12 @@ impl Function {
     }
 
     pub fn directed(self) -> bool {
-        matches!(self, FrechetExpm | FrechetLogm | FrechetSqrtm)
+        matches!(self, FrechetExpm | FrechetLogm) || self.derives_root()
+    }
+
+    /// The functions that give a square root and its derivative.
+    pub fn derives_root(self) -> bool {
+        matches!(self, FrechetSqrtm | FrechetSqrtmSylvester)
     }
 
     /// The functions that halve a matrix, powm where its exponent is a fraction.
@@ -73,14 +93,14 @@ impl Function {
         matches!(self, Expm | Powm | Cosm | Sinm | FrechetExpm | CondExpm)
     }
 
-    /// The functions that factor a matrix: sqrtm and frechet_sqrtm from order 2 on, powm where its exponent is a fraction or a negative integer.
+    /// The functions that factor a matrix: roots and their derivatives from order 2 on, powm where its exponent is a fraction or a negative integer.
     pub fn factors(self) -> bool {
         !matches!(self, Cosm | Sinm | LuSolve | LuDeterminant | Kron | KronSum)
     }
 
-    /// The functions that iterate: sqrtm and frechet_sqrtm from order 2 on, powm where its exponent is a fraction.
+    /// The functions that iterate: roots and their derivatives from order 2 on, powm where its exponent is a fraction.
     pub fn iterates(self) -> bool {
-        matches!(self, Logm | Sqrtm | Powm | FrechetLogm | FrechetSqrtm)
+        matches!(self, Logm | Sqrtm | Powm | FrechetLogm) || self.derives_root()
     }
 
     /// A direction, a right-hand side or a second matrix stands beside the matrix.
@@ -96,7 +116,7 @@ impl Function {
     pub fn output_count(self) -> usize {
         match self {
             CondExpm | LuDeterminant => 0,
-            FrechetExpm | FrechetLogm | FrechetSqrtm => 2,
+            _ if self.directed() => 2,
             _ => 1,
         }
     }

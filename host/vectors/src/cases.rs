@@ -38,7 +38,7 @@ pub enum Kind {
 
 use Kind::*;
 
-/// Every kind with finite entries, but for those that are made for functions that halve, and for frechet_sqrtm.
+/// Every kind with finite entries, but for those that are made for functions that halve, and for a root's derivative.
 const FINITE: [Kind; 22] = [
     SmallIntegers,
     Normal,
@@ -189,7 +189,7 @@ fn at_tolerance<T: Width>(n: usize, r: &mut Random) -> Vec<T> {
     a
 }
 
-/// Pairs of rows turn by nearly half a turn and are scaled; a last row alone is 1. In a run of frechet_sqrtm the system of order n × n then has the smallest
+/// Pairs of rows turn by nearly half a turn and are scaled; a last row alone is 1. Of a root's derivative the system of order n × n then has the smallest
 /// pivot, which it seldom has otherwise.
 fn half_turn<T: Width>(n: usize, r: &mut Random) -> Vec<T> {
     let mut a = vec![T::zero(); n * n];
@@ -323,8 +323,8 @@ pub fn square<T: Width>(kind: Kind, n: usize, r: &mut Random) -> Vec<T> {
 pub fn matrix_for<T: Width>(function: Function, n: usize, r: &mut Random) -> Vec<T> {
     let kind = match function {
         Expm | Cosm | Sinm | FrechetExpm | CondExpm if r.once_in(16) => AtLimit,
-        FrechetSqrtm if r.once_in(8) => HalfTurn,
-        Logm | Sqrtm | Powm | FrechetLogm | FrechetSqrtm if r.once_in(2) => r.pick(&ROOTED),
+        FrechetSqrtm | FrechetSqrtmSylvester if r.once_in(8) => HalfTurn,
+        Logm | Sqrtm | Powm | FrechetLogm | FrechetSqrtm | FrechetSqrtmSylvester if r.once_in(2) => r.pick(&ROOTED),
         Expm | Cosm | Sinm | FrechetExpm | CondExpm if r.once_in(2) => r.pick(&[Normal, Scaled, Symmetric]),
         _ if !function.coded() && r.once_in(6) => Nonfinite,
         _ => r.pick(&FINITE),

@@ -105,6 +105,14 @@ fn shear<T: Width>(exponent: i32) -> Vec<T> {
     banded(2, T::one(), T::power(exponent))
 }
 
+/// Matrices whose square root is not symmetric: a triangle, and three shears. Both systems of the first shear are solved. LU refuses
+/// frechet_sqrtm_sylvester's of the second, and frechet_sqrtm's of the third, whose entry stands below the diagonal.
+fn nonsymmetric<T: Width>() -> [Vec<T>; 4] {
+    let exponent = T::FRACTION as i32;
+    let below = vec![T::one(), T::zero(), T::power(exponent * 3 / 4), T::one()];
+    [rounded(&[3.0, 0.0, 2.0, 4.0]), shear(exponent), shear(exponent + 1), below]
+}
+
 /// Matrices whose logarithms take many steps or few, settled or not. The trace of the second is infinite: two roots run out, the second on NaNs, of which
 /// no more are taken, and the series runs out, too.
 fn with_logarithms<T: Width>() -> [Vec<T>; 7] {
@@ -127,7 +135,7 @@ fn with_directions<T: Width>() -> [(Vec<T>, Vec<T>); 5] {
 fn iterated<T: Width>(function: Function) -> Vec<Call<T>> {
     let call = |matrix: &[T], direction: &[T], p: f64| Call::coded(function, 2, matrix, direction, T::of(p));
     match function {
-        Sqrtm | FrechetSqrtm => rooted().map(|x| call(&x, &counting(2), 0.0)).to_vec(),
+        Sqrtm | FrechetSqrtm | FrechetSqrtmSylvester => rooted().map(|x| call(&x, &counting(2), 0.0)).to_vec(),
         Logm => with_logarithms().map(|x| call(&x, &[], 0.0)).to_vec(),
         FrechetLogm => with_directions().map(|(x, e)| call(&x, &e, 0.0)).to_vec(),
         Powm => [(largest(), 0.5), (shear(96), 1e-12), (shear(97), 1e-12)].map(|(x, p)| call(&x, &[], p)).to_vec(),
@@ -152,8 +160,11 @@ pub fn given<T: Width>(function: Function) -> Vec<Call<T>> {
     if function == Powm {
         calls.push(root_of_shear(T::of(1e25)));
     }
+    if function == FrechetSqrtmSylvester {
+        calls.extend(nonsymmetric().map(|matrix| Call::coded(function, 2, &matrix, &counting(2), T::zero())));
+    }
     calls.extend(iterated(function));
-    if function == FrechetSqrtm {
+    if function.derives_root() {
         // Nearly half a turn: the system of order 4 has the smallest pivot.
         calls.push(Call::coded(function, 2, &rounded(&[-0.25, -0.015625, 0.015625, -0.25]), &counting(2), T::zero()));
     }

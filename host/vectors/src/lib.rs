@@ -13,4 +13,5 @@ pub mod random;
 pub mod read;
 pub mod reports;
 pub mod roots;
+pub mod sylvester;
 pub mod width;

@@ -30,7 +30,7 @@ fn print_roots<T: Width>() -> Result<()> {
 fn print_calls<T: Width>(function: Function, seed: u64, count: usize) -> Result<()> {
     let mut out = BufWriter::new(stdout());
     // Each function has a sequence of its own.
-    let mut random = Random::new(seed.wrapping_mul(16).wrapping_add(function as u64));
+    let mut random = Random::new(seed.wrapping_mul(16).wrapping_add(function.sequence()));
     let (mut printed, mut near, mut parted) = (0, 0, 0);
     while printed < count {
         let call = case::<T>(function, &mut random);

@@ -1,6 +1,6 @@
 //! Matrices of more kinds: badly conditioned, with rows of different sizes, with eigenvalues below 0, next to overflow.
 
-use crate::call::FUNCTIONS;
+use crate::call::{CODES, FUNCTIONS};
 use crate::cases::{Kind, NOT_FINITE, matrix_for, shear, shear_at_limit, square};
 use crate::random::Random;
 use crate::width::Width;
@@ -63,7 +63,7 @@ pub fn matrix<T: Width>(n: usize, r: &mut Random) -> Vec<T> {
         10 => steep(n, r),
         11 => shear_at_limit(n, r),
         // The kinds that suit a function, and now and then any kind.
-        _ => matrix_for(FUNCTIONS[r.below(10)].0, n, r),
+        _ => matrix_for(FUNCTIONS[r.below(CODES)].0, n, r),
     };
     spoil(&mut a, 24, r);
     a

@@ -19,7 +19,7 @@ fn last_number<T: Width>(done: &mut Done<T>) -> Option<&mut T> {
 
 /// The first call of a function that is done and that the change can be made to, with the outcome that it makes wrong.
 fn changed<T: Width>(function: Function, change: impl Fn(&mut Done<T>) -> bool) -> (Call<T>, Outcome<T>) {
-    let mut random = Random::new(function as u64);
+    let mut random = Random::new(function.sequence());
     loop {
         let call: Call<T> = case(function, &mut random);
         let mut outcome = answer(&call);

@@ -62,7 +62,7 @@ pub fn asked<T: Width>(c: &Call<T>) -> Result<(), Refusal> {
         return Err(Refusal(2, c.rows, c.columns));
     }
     let fits = match f {
-        FrechetExpm | FrechetLogm | FrechetSqrtm => c.companion_rows == c.rows && c.companion_columns == c.rows,
+        _ if f.directed() => c.companion_rows == c.rows && c.companion_columns == c.rows,
         LuSolve => c.companion_rows == c.rows,
         KronSum => c.companion_rows == c.companion_columns,
         _ => true,
@@ -92,7 +92,7 @@ pub fn asked<T: Width>(c: &Call<T>) -> Result<(), Refusal> {
         let x = c.matrix.first().copied().unwrap_or_default();
         let defined = match f {
             Logm | FrechetLogm => x > T::zero(),
-            Sqrtm | FrechetSqrtm => x >= T::zero(),
+            Sqrtm | FrechetSqrtm | FrechetSqrtmSylvester => x >= T::zero(),
             _ => true,
         };
         if !defined {

@@ -4,6 +4,7 @@
 
 use crate::call::{Call, Function::*, word};
 use crate::norms::{block, even_direction, frobenius_norm, halvings, one_norm};
+use crate::sylvester::{layout, transposed};
 use crate::width::Width;
 use oracle::Lu;
 
@@ -103,27 +104,6 @@ fn pade_parts<T: Width>(n: usize, a: &[T]) -> [Vec<T>; 2] {
 /// Whether the 1-norm of A - I exceeds 0.1, so that a logarithm takes a root first; a NaN column never wins.
 fn is_far<T: Width>(n: usize, a: &[T]) -> bool {
     one_norm(n, &minus_identity(n, a)) > T::of(0.1)
-}
-
-/// The matrix of the Sylvester equation of S, of order n × n.
-fn sylvester<T: Width>(n: usize, s: &[T]) -> Vec<T> {
-    let mut system = vec![T::zero(); n * n * n * n];
-    let mut add = |row: usize, column: usize, x: T| {
-        let at = row * n * n + column;
-        system[at] = system[at] + x;
-    };
-    for k in 0..n {
-        s.iter().enumerate().for_each(|(at, x)| add(k * n + at / n, k * n + at % n, *x));
-    }
-    for (at, x) in s.iter().enumerate() {
-        (0..n).for_each(|k| add(at / n * n + k, at % n * n + k, *x));
-    }
-    system
-}
-
-/// The matrix's columns, one after the other; of those again the matrix.
-fn transposed<T: Width>(n: usize, a: &[T]) -> Vec<T> {
-    (0..n * n).map(|k| a[k % n * n + k / n]).collect()
 }
 
 /// What an iteration is for.
@@ -274,9 +254,10 @@ impl<T: Width> Run<T> {
         Some(y)
     }
 
-    fn root_derivative(&mut self, n: usize, a: &[T], e: &[T]) -> Option<[Vec<T>; 2]> {
+    /// The root of A and its derivative; `second` gives the root as it stands in the system's second term.
+    fn root_derivative(&mut self, n: usize, a: &[T], e: &[T], second: impl Fn(&[T]) -> Vec<T>) -> Option<[Vec<T>; 2]> {
         let root = self.square_root(n, a)?;
-        let columns = self.solve(n * n, &sylvester(n, &root), &transposed(n, e))?;
+        let columns = self.solve(n * n, &layout(n, &root, &second(&root)), &transposed(n, e))?;
         Some([root, transposed(n, &columns)])
     }
 
@@ -306,7 +287,8 @@ impl<T: Width> Run<T> {
         let first = match c.function {
             FrechetExpm => return Some(self.exponential_derivative(n, a, e)),
             FrechetLogm => return self.logarithm_derivative(n, a, e),
-            FrechetSqrtm => return self.root_derivative(n, a, e),
+            FrechetSqrtm => return self.root_derivative(n, a, e, <[T]>::to_vec),
+            FrechetSqrtmSylvester => return self.root_derivative(n, a, e, |root| transposed(n, root)),
             Expm => self.exponential(n, a),
             CondExpm => self.condition(n, a),
             Logm => self.logarithm(n, a)?,
@@ -325,7 +307,7 @@ impl<T: Width> Run<T> {
 /// Whether the call may factor a matrix.
 fn factors<T: Width>(c: &Call<T>) -> bool {
     match c.function {
-        Sqrtm | FrechetSqrtm => c.rows > 1,
+        Sqrtm | FrechetSqrtm | FrechetSqrtmSylvester => c.rows > 1,
         Powm => whole(c.exponent).is_none_or(|p| p < 0),
         function => function.factors(),
     }

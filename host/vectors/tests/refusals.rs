@@ -21,7 +21,7 @@ fn source<T: Width + std::panic::RefUnwindSafe>(c: &Call<T>) -> Option<MatFunErr
         Sinm => oracle::sinm(r, k, a).err(),
         FrechetExpm => oracle::frechet_expm(r, k, a, s, l, e).err(),
         FrechetLogm => oracle::frechet_logm(r, k, a, s, l, e).err(),
-        FrechetSqrtm => oracle::frechet_sqrtm(r, k, a, s, l, e).err(),
+        FrechetSqrtm | FrechetSqrtmSylvester => oracle::frechet_sqrtm(r, k, a, s, l, e).err(),
         CondExpm => oracle::cond_expm(r, k, a).err(),
         LuSolve if r == k => {
             let mut identity = vec![T::zero(); r * r];

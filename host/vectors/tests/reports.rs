@@ -7,6 +7,7 @@ use vectors::given::given;
 use vectors::norms::{block, even_direction};
 use vectors::random::Random;
 use vectors::reports::{Iteration, Part, Run, repeated, settled, smallest_pivot, steps, whole};
+use vectors::sylvester::transposed;
 use vectors::width::Width;
 
 /// The nearest numbers of the width.
@@ -74,7 +75,7 @@ fn lu_reports_its_smallest_pivot() {
 }
 
 /// Bits of the smallest pivot in f64 and of the widened one in f32, for [[3, 0], [2, 4]], the direction [[1, 2], [3, 4]] and an exponent.
-const REPORTED: [(Function, f64, u64, u64); 10] = [
+const REPORTED: [(Function, f64, u64, u64); 11] = [
     (Expm, 0.0, 0x3fe8e3f76d326011, 0x3fe8e3f780000000),
     (Logm, 0.0, 0x3ff08f106b154902, 0x3ff08f1060000000),
     (Sqrtm, 0.0, 0x3fe0000000000005, 0x3fe0000000000000),
@@ -85,6 +86,7 @@ const REPORTED: [(Function, f64, u64, u64); 10] = [
     (FrechetLogm, 0.0, 0x3ff08f106b154902, 0x3ff08f1060000000),
     (FrechetSqrtm, 0.0, 0x3fe0000000000005, 0x3fe0000000000000),
     (CondExpm, 0.0, 0x3fe8e3f76d326011, 0x3fe8e3f780000000),
+    (FrechetSqrtmSylvester, 0.0, 0x3fe0000000000005, 0x3fe0000000000000),
 ];
 
 #[test]
@@ -118,7 +120,7 @@ fn are_plain<T: Width>() {
     assert_eq!(of(Expm, [0.0; 4], 0.0), 1.0);
     // Roots of order 1 factor nothing, the exponential of a block of order 2 does.
     let single = |function| reported(&Call::coded(function, 1, &[T::of(4.0)], &[T::one()], T::zero()));
-    assert_eq!([Sqrtm, FrechetSqrtm].map(single), [f64::INFINITY; 2]);
+    assert_eq!([Sqrtm, FrechetSqrtm, FrechetSqrtmSylvester].map(single), [f64::INFINITY; 3]);
     assert!([FrechetExpm, CondExpm].map(single).iter().all(|x| *x < 1.0));
     // Refused, after the first pass factored z.
     assert!(matches!(answer(&coded::<T>(Sqrtm, [0.0; 4], 0.0)), Outcome::Refused(Refusal(13, 0, 0))));
@@ -132,13 +134,15 @@ fn calls_that_are_easily_followed() {
 }
 
 /// Steps and settling of f64 calls and of f32 ones, of matrices of order 2 with the direction [[1, 2], [3, 4]] and an exponent.
-const ITERATED: [(Function, [f64; 4], f64, (usize, bool), (usize, bool)); 22] = [
+const ITERATED: [(Function, [f64; 4], f64, (usize, bool), (usize, bool)); 24] = [
     (Sqrtm, [3.0, 0.0, 2.0, 4.0], 0.0, (6, true), (5, true)),
     (Sqrtm, [0.5, 1.0 / 3.0, 1.0 / 3.0, 0.25], 0.0, (8, true), (7, true)),
     (Sqrtm, [4.0, 0.0, 0.0, 4.0], 0.0, (6, true), (5, true)),
     (Sqrtm, [1.0, 0.0, 0.0, 1.0], 0.0, (1, true), (1, true)),
     (Sqrtm, [-3.0, 0.0, 0.0, -2.5], 0.0, (100, false), (100, false)),
     (FrechetSqrtm, [0.5, 1.0 / 3.0, 1.0 / 3.0, 0.25], 0.0, (8, true), (7, true)),
+    (FrechetSqrtmSylvester, [3.0, 0.0, 2.0, 4.0], 0.0, (6, true), (5, true)),
+    (FrechetSqrtmSylvester, [-3.0, 0.0, 0.0, -2.5], 0.0, (100, false), (100, false)),
     (Logm, [3.0, 0.0, 2.0, 4.0], 0.0, (33, true), (20, true)),
     (Logm, [1.0, 0.0, 0.0, 1.0], 0.0, (1, true), (1, true)),
     (Logm, [-3.0, 0.0, 0.0, -2.5], 0.0, (130, false), (117, false)),
@@ -171,11 +175,13 @@ fn have_no_steps<T: Width>() {
         assert_eq!(iterated(&factoring::<T>(2, &a)), (0, true));
     }
     let single = |function, x: f64| iterated(&Call::coded(function, 1, &[T::of(x)], &[T::one()], T::zero()));
-    for function in [Sqrtm, FrechetSqrtm, FrechetExpm, CondExpm] {
+    for function in [Sqrtm, FrechetSqrtm, FrechetSqrtmSylvester, FrechetExpm, CondExpm] {
         assert_eq!(single(function, 4.0), (0, true));
     }
     // Refused before a step, at the first and after the first; and where a logarithm's exponential is refused.
-    assert_eq!([Sqrtm, FrechetSqrtm, Logm, Expm].map(|function| single(function, -1.0)), [(0, false); 4]);
+    for function in [Sqrtm, FrechetSqrtm, FrechetSqrtmSylvester, Logm, Expm] {
+        assert_eq!(single(function, -1.0), (0, false));
+    }
     assert_eq!(iterated(&factoring::<T>(2, &[0.0; 4])), (0, false));
     assert_eq!(iterated(&coded::<T>(Sqrtm, [0.0; 4], 0.0)), (0, false));
     assert_eq!(iterated(&coded::<T>(Powm, [0.0; 4], -1.0)), (0, false));
@@ -192,7 +198,7 @@ fn calls_without_iteration_and_refused_ones() {
 fn are_written<T: Width>(function: Function, wanted: &[(usize, bool)]) {
     let calls = given::<T>(function);
     // One more follows them, for the smallest pivot.
-    let last = calls.len() - usize::from(function == FrechetSqrtm);
+    let last = calls.len() - usize::from(function.derives_root());
     let found: Vec<(usize, bool)> = calls[last - wanted.len()..last].iter().map(iterated).collect();
     assert_eq!(found, wanted, "{} {}", T::NAME, function.name());
 }
@@ -201,8 +207,10 @@ fn are_written<T: Width>(function: Function, wanted: &[(usize, bool)]) {
 fn written_calls_report_their_steps() {
     are_written::<f64>(Sqrtm, &[(100, false), (100, true), (8, true)]);
     are_written::<f32>(Sqrtm, &[(100, false), (100, true), (7, true)]);
-    are_written::<f64>(FrechetSqrtm, &[(100, false), (0, false), (8, true)]);
-    are_written::<f32>(FrechetSqrtm, &[(100, false), (0, false), (7, true)]);
+    for function in [FrechetSqrtm, FrechetSqrtmSylvester] {
+        are_written::<f64>(function, &[(100, false), (0, false), (8, true)]);
+        are_written::<f32>(function, &[(100, false), (0, false), (7, true)]);
+    }
     let (infinite, shears) = ((259, false), [(201, true), (201, false)]);
     are_written::<f64>(Logm, &[(274, false), infinite, shears[0], shears[1], (187, true), (33, true), (1, true)]);
     are_written::<f32>(Logm, &[(196, true), infinite, shears[0], shears[1], (156, true), (20, true), (1, true)]);
@@ -266,7 +274,7 @@ fn are_counted_by_factorings<T: Width>(function: Function) -> [usize; 3] {
     let runs: Vec<Run<T>> = calls.filter(|c| c.rows > 1).filter_map(|c| run_of(&c)).collect();
     for run in runs.iter().filter(|run| !run.iterations.is_empty()) {
         let [root, newton] = [Part::Root, Part::Newton].map(|part| steps(&of_part(&run.iterations, part)));
-        let another = usize::from(matches!(function, FrechetSqrtm | Powm));
+        let another = usize::from(function.derives_root() || function == Powm);
         assert_eq!(run.factorings.len(), 2 * root + newton + another);
         assert!(
             run.iterations.iter().all(|x| x.steps <= 100 && (x.settled || x.steps != 0 || x.part == Part::Rooting))
@@ -278,7 +286,7 @@ fn are_counted_by_factorings<T: Width>(function: Function) -> [usize; 3] {
 
 #[test]
 fn steps_are_counted_by_factorings() {
-    for function in [Sqrtm, Logm, FrechetLogm, FrechetSqrtm, Powm] {
+    for function in [Sqrtm, Logm, FrechetLogm, FrechetSqrtm, FrechetSqrtmSylvester, Powm] {
         for counts in [are_counted_by_factorings::<f64>(function), are_counted_by_factorings::<f32>(function)] {
             assert!(counts.iter().all(|count| *count > 10), "{} {counts:?}", function.name());
         }
@@ -314,9 +322,10 @@ fn by_parts<T: Width>(c: &Call<T>) -> Option<Report> {
             let exponential = Call::coded(Expm, n, &argument, &[], T::zero());
             argument.iter().all(|x| x.is_finite()).then(|| joined(logarithm(a), whole_report(&exponential)))
         }
-        FrechetSqrtm if n > 1 => {
+        FrechetSqrtm | FrechetSqrtmSylvester if n > 1 => {
             let root = oracle::sqrtm(n, n, a).ok().filter(|root| root.iter().all(|x| x.is_finite()))?;
-            let system = factoring_of(n * n, &oracle::kron_sum(n, n, &root, n, n, &root));
+            let second = if c.function == FrechetSqrtm { root.clone() } else { transposed(n, &root) };
+            let system = factoring_of(n * n, &oracle::kron_sum(n, n, &second, n, n, &root));
             Some(joined(whole_report(&Call::coded(Sqrtm, n, a, &[], T::zero())), whole_report(&system)))
         }
         _ => None,
@@ -336,31 +345,33 @@ fn are_put_together<T: Width>(function: Function) -> usize {
 
 #[test]
 fn reports_are_put_together() {
-    for function in [CondExpm, FrechetExpm, FrechetLogm, FrechetSqrtm, Powm] {
+    for function in [CondExpm, FrechetExpm, FrechetLogm, FrechetSqrtm, FrechetSqrtmSylvester, Powm] {
         let counts = [are_put_together::<f64>(function), are_put_together::<f32>(function)];
         assert!(counts.iter().all(|count| *count > 40), "{} {counts:?}", function.name());
     }
 }
 
-/// Whether the last factoring of a call that is done, the system of frechet_sqrtm, has the smallest pivot.
+/// Whether the last factoring of a call that is done, the system of a root's derivative, has the smallest pivot.
 fn is_last<T: Width>(call: &Call<T>) -> bool {
     let all = run_of(call).map_or(Vec::new(), |run| run.factorings);
     all.split_last().is_some_and(|(last, others)| others.iter().all(|x| *x > *last))
 }
 
 /// The system of order n × n has the smallest pivot in one written call at least, and in one of twelve random ones of orders from 2 on.
-fn system_is_smallest<T: Width>() {
-    assert!(given::<T>(FrechetSqrtm).iter().rev().take(1).all(is_last));
+fn system_is_smallest<T: Width>(function: Function) {
+    assert!(given::<T>(function).iter().rev().take(1).all(is_last));
     let mut random = Random::new(29);
-    let calls: Vec<Call<T>> = (0..600).map(|_| case::<T>(FrechetSqrtm, &mut random)).filter(|c| c.rows > 1).collect();
+    let calls: Vec<Call<T>> = (0..600).map(|_| case::<T>(function, &mut random)).filter(|c| c.rows > 1).collect();
     let count = calls.iter().filter(|c| is_last(c)).count();
     assert!(count * 12 > calls.len(), "{count} of {}", calls.len());
 }
 
 #[test]
 fn the_sylvester_system_has_the_smallest_pivot() {
-    system_is_smallest::<f64>();
-    system_is_smallest::<f32>();
+    for function in [FrechetSqrtm, FrechetSqrtmSylvester] {
+        system_is_smallest::<f64>(function);
+        system_is_smallest::<f32>(function);
+    }
 }
 
 /// A run that is not the source's ends the program: another last bit, an output that was refused, and a refusal that was none.

@@ -3,6 +3,7 @@ use mathlib.Core.Path.{ap, _∙_}
 use lib.Ieee.{binary64}
 use Rattle.arithmetic_matrices.specs.Matrix.{part}
 use Rattle.functions_roots.proofs.RootDerivativeLaws.{system-filled}
+use Rattle.functions_roots.specs.Kernels.{secondOf}
 use native.Mathlib.Nat.{mul-le-mul}
 use native.Mathlib.Omega.{arith}
 use borrow.Author.Needs.{needs}
@@ -24,7 +25,7 @@ returns c =
     let a = s .args in
     let o = copy-out .copy-out in
     let m = sylvester-into .sylvester-into in
-    system-filled binary64 (a .n) (a .w .now) (o .last .1 .1 .0) (m .last .1 .1 .0) (s .pre .1) (s .pre .2) (o .ensures ∙ ap (part (a .w .now) 0) (s .pre .3)) (m .ensures)
+    system-filled binary64 (a .n) (secondOf (a .transposed) (a .n)) (a .w .now) (o .last .1 .1 .0) (m .last .1 .1 .1 .0) (s .pre .1) (s .pre .2) (o .ensures ∙ ap (part (a .w .now) 0) (s .pre .3)) (m .ensures)
 
 pub fill-system-spec : {M : Type 1} → statement M
 fill-system-spec =

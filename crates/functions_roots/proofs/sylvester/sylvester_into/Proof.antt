@@ -7,14 +7,15 @@ use lib.Ieee.{binary64}
 use Rattle.arithmetic_matrices.specs.Kernels.{blockRow}
 use Rattle.functions_definitions.specs.Derivatives.{sylvesterEntry, sylvesterMatrix}
 use Rattle.arithmetic_matrices.proofs.FilledLaws.{Blocks, blocks-start, blocks-inside, blocks-turn, blocks-end}
+use Rattle.functions_roots.specs.Kernels.{secondOf}
 use Rattle.functions_roots.proofs.sylvester.sylvester_into.Statement.{statement}
 use Rattle.functions_roots.proofs.sylvester.sylvester_into.Tie as tie
 
 abbrev Inv-loop : tie.InvT-loop
-Inv-loop n s out₀ size y₀ p₀ out y p = Blocks out₀ n n n n (sylvesterEntry binary64 n s) y out p
+Inv-loop n s transposed out₀ size y₀ p₀ out y p = Blocks out₀ n n n n (sylvesterEntry binary64 n s (secondOf transposed n s)) y out p
 
 abbrev μ-loop : tie.MeasureT-loop
-μ-loop n s out₀ size y₀ p₀ out y p = n - p
+μ-loop n s transposed out₀ size y₀ p₀ out y p = n - p
 
 -- in a turn the rows of blocks lie within the list
 inside : (t : tie.In-loop Inv-loop μ-loop) → let s : tie.Start Inv-loop μ-loop = search in t .before .loop .y + s .args .n * (s .args .n * s .args .n) ≤ s .args .n * s .args .n * (s .args .n * s .args .n)

@@ -7,14 +7,15 @@ use Rattle.functions_definitions.specs.Derivatives.{sylvesterEntry}
 use Rattle.arithmetic_matrices.specs.Kernels.{blockRow}
 use Rattle.arithmetic_matrices.proofs.MatrixLaws.{row-end}
 use Rattle.arithmetic_matrices.proofs.FilledLaws.{Filled, filled-start, filled-inside, filled-turn, filled-end}
+use Rattle.functions_roots.specs.Kernels.{secondOf}
 use Rattle.functions_roots.proofs.sylvester.sylvester_rows.Statement.{statement}
 use Rattle.functions_roots.proofs.sylvester.sylvester_rows.Tie as tie
 
 abbrev Inv-loop : tie.InvT-loop
-Inv-loop out₀ y n s p width z₀ r₀ out z r = Filled out₀ y n (n * n) (blockRow n (sylvesterEntry binary64 n s) p) z out r
+Inv-loop out₀ y n s transposed p width z₀ r₀ out z r = Filled out₀ y n (n * n) (blockRow n (sylvesterEntry binary64 n s (secondOf transposed n s)) p) z out r
 
 abbrev μ-loop : tie.MeasureT-loop
-μ-loop out₀ y n s p width z₀ r₀ out z r = n - r
+μ-loop out₀ y n s transposed p width z₀ r₀ out z r = n - r
 
 -- in a turn the row lies within the rows that are written, and the row that is read within its matrix
 inside : (t : tie.In-loop Inv-loop μ-loop) →

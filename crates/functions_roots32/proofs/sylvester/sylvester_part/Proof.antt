@@ -11,22 +11,20 @@ use Rattle.functions_roots32.proofs.sylvester.sylvester_part.Statement.
 use Rattle.functions_roots32.proofs.sylvester.sylvester_part.Tie as tie
 
 abbrev Inv-loop : tie.InvT-loop
-Inv-loop out₀ y p q v n s r x c₀ out c = Stored y n (λ j. addedWhere binary32 (addedWhere binary32 +zero p q (at n s r j)) r j v) out₀ out c
+Inv-loop out₀ y p q v n s r c₀ out c = Stored y n (λ j. addedWhere binary32 (addedWhere binary32 +zero p q (at n s r j)) r j v) out₀ out c
 
 abbrev μ-loop : tie.MeasureT-loop
-μ-loop out₀ y p q v n s r x c₀ out c = n - c
+μ-loop out₀ y p q v n s r c₀ out c = n - c
 
 loop-again : tie.Need-loop-again Inv-loop μ-loop
-unfolding at
 loop-again c =
-    let (second, first, turn, head) :
-    tie.After-add-where2 Inv-loop μ-loop × tie.After-add-where Inv-loop μ-loop × tie.In-loop Inv-loop μ-loop × tie.At-loop Inv-loop μ-loop = search in
-    stored-turn (head .loop .inv) (turn .loop-test .taken) (rw (second .add-where2 .ensures, first .add-where .ensures, +zero-bits binary32))
+    let (second, first, entry, turn, head) :
+    tie.After-add-where2 Inv-loop μ-loop × tie.After-add-where Inv-loop μ-loop × tie.After-entry Inv-loop μ-loop × tie.In-loop Inv-loop μ-loop × tie.At-loop Inv-loop μ-loop = search in
+    stored-turn (head .loop .inv) (turn .loop-test .taken) (rw (second .add-where2 .ensures, first .add-where .ensures, entry .entry .ensures, +zero-bits binary32))
 
 pub sylvester-part-spec : {M : Type 1} → statement M
 sylvester-part-spec =
     tie.close
-    (tie.spec Inv-loop μ-loop (λ c. search needs) (λ c. stored-start _ _ _ _) (λ c. search needs) (λ c. search needs)
-    (λ c. search needs) (λ c κs. search needs) (λ c κs. search needs) (λ c. search needs) (λ c. search needs)
+    (tie.spec Inv-loop μ-loop (λ c. stored-start _ _ _ _) (λ c κs. search needs) (λ c κs. search needs) (λ c κs. search needs) (λ c. search needs) (λ c. search needs)
     (λ c. search needs) (λ c. search needs) (λ c. search needs) loop-again (λ c. search needs)
     (λ c. search stored-end))

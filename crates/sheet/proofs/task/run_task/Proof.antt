@@ -1,5 +1,6 @@
 -- `run_task` meets its contract. Assumes nothing.
 use Prim.Native.Nat.{_+_}
+use mathlib.Core.Path.{sym, _∙_}
 use denote.Ref.{now}
 use lib.Ieee.{binary64}
 use Rattle.sheet_encoding.specs.Bytes.{byteAt}
@@ -37,25 +38,24 @@ returns c =
 
 derivative-line-requires : tie.Need-derivative-line-requires
 derivative-line-requires c κs =
-    let (taken2, left1, b) : tie.Then2 × tie.Else1 × tie.Start = search in
+    let (taken2, takes, b) : tie.Then2 × tie.After-takes-direction × tie.Start = search in
     let ready = b .pre .1 .0 in
-    let six = left1 .if1 .left in
-    let nine = taken2 .if2 .taken in
-    (b .pre .0, ((b .pre .1 .1 .1, b .pre .1 .1 .2, b .pre .1 .1 .3), (ready .index six nine, ready .direction six nine)))
+    let named = sym (takes .takes-direction .ensures) ∙ taken2 .if2 .taken in
+    (b .pre .0, ((b .pre .1 .1 .1, b .pre .1 .1 .2, b .pre .1 .1 .3), (ready .index named, ready .direction named)))
 
 returns-2 : tie.Need-returns-2
 returns-2 c =
-    let (derivative-line, taken2, left1, b) : tie.After-derivative-line × tie.Then2 × tie.Else1 × tie.Start = search in
+    let (derivative-line, taken2, takes, left1, b) : tie.After-derivative-line × tie.Then2 × tie.After-takes-direction × tie.Else1 × tie.Start = search in
     let a = b .args in
     let s = now (a .s) in
-    lined-as binary64 (a .task) (task-derivative binary64 s (a .n) (a .d) (byteAt s (a .q)) (byteAt s (a .q + 1)) (now (a .a)) (b .pre .1 .1 .0) (left1 .if1 .left) (taken2 .if2 .taken)) (derivative-line .derivative-line .ensures)
+    lined-as binary64 (a .task) (task-derivative binary64 s (a .n) (a .d) (byteAt s (a .q)) (byteAt s (a .q + 1)) (now (a .a)) (b .pre .1 .1 .0) (left1 .if1 .left) (sym (takes .takes-direction .ensures) ∙ taken2 .if2 .taken)) (derivative-line .derivative-line .ensures)
 
 returns-3 : tie.Need-returns-3
 returns-3 c =
-    let (condition-line, left2, left1, b) : tie.After-condition-line × tie.Else2 × tie.Else1 × tie.Start = search in
+    let (condition-line, left2, takes, left1, b) : tie.After-condition-line × tie.Else2 × tie.After-takes-direction × tie.Else1 × tie.Start = search in
     let a = b .args in
     let s = now (a .s) in
-    lined-as binary64 (a .task) (task-condition binary64 s (a .n) (a .d) (byteAt s (a .q)) (byteAt s (a .q + 1)) (now (a .a)) (b .pre .1 .1 .0) (left1 .if1 .left) (left2 .if2 .left)) (condition-line .condition-line .ensures)
+    lined-as binary64 (a .task) (task-condition binary64 s (a .n) (a .d) (byteAt s (a .q)) (byteAt s (a .q + 1)) (now (a .a)) (b .pre .1 .1 .0) (left1 .if1 .left) (sym (takes .takes-direction .ensures) ∙ left2 .if2 .left)) (condition-line .condition-line .ensures)
 
 pub run-task-spec : {M : Type 1} → statement M
 run-task-spec =
@@ -71,6 +71,7 @@ run-task-spec =
     (λ c. search needs)
     (λ c. search needs)
     returns
+    (λ c κs. search needs)
     derivative-line-requires
     (λ c. search needs)
     (λ c. search needs)

@@ -1,5 +1,7 @@
 -- `index_limit` meets its contract. Assumes nothing.
-use borrow.Author.Tests.{le-leb, lt-leb, eq-eqb, ne-eqb}
+use mathlib.Core.Path.{sym, _∙_}
+use borrow.Author.Needs.{needs}
+use borrow.Author.Tests.{eq-eqb, ne-eqb}
 use Rattle.sheet_encoding.proofs.parse.index_limit.Statement.{statement}
 use Rattle.sheet_encoding.proofs.parse.index_limit.Tie as tie
 
@@ -11,18 +13,13 @@ returns c =
 
 returns-2 : tie.Need-returns-2
 returns-2 c =
-    let (taken2, left1, s) : tie.Then2 × tie.Else1 × tie.Start = search in
-    let k = s .args .code in simp (ne-eqb k 3 (left1 .if1 .left), lt-leb 6 k (taken2 .if2 .taken))
+    let (taken2, takes, left1, s) : tie.Then2 × tie.After-takes-direction × tie.Else1 × tie.Start = search in
+    simp (ne-eqb (s .args .code) 3 (left1 .if1 .left), sym (takes .takes-direction .ensures) ∙ taken2 .if2 .taken)
 
 returns-3 : tie.Need-returns-3
 returns-3 c =
-    let (taken3, left2, left1, s) : tie.Then3 × tie.Else2 × tie.Else1 × tie.Start = search in
-    let k = s .args .code in simp (ne-eqb k 3 (left1 .if1 .left), le-leb 6 k (left2 .if2 .left), lt-leb k 8 (taken3 .if3 .taken))
-
-returns-4 : tie.Need-returns-4
-returns-4 c =
-    let (left3, left2, left1, s) : tie.Else3 × tie.Else2 × tie.Else1 × tie.Start = search in
-    let k = s .args .code in simp (ne-eqb k 3 (left1 .if1 .left), le-leb 6 k (left2 .if2 .left), le-leb k 8 (left3 .if3 .left))
+    let (left2, takes, left1, s) : tie.Else2 × tie.After-takes-direction × tie.Else1 × tie.Start = search in
+    simp (ne-eqb (s .args .code) 3 (left1 .if1 .left), sym (takes .takes-direction .ensures) ∙ left2 .if2 .left)
 
 pub index-limit-spec : {M : Type 1} → statement M
-index-limit-spec = tie.close (tie.spec returns returns-2 returns-3 returns-4)
+index-limit-spec = tie.close (tie.spec returns (λ c κs. search needs) returns-2 returns-3)
