@@ -296,7 +296,7 @@ answer p c x = asked p c >>= λ _. x
 --
 -- x: asked, -: not asked. Column 3 says what the companion has to be, column 4 what has a limit, column 10 what the entry a of a matrix of order 1 has to be; n is the order, m the
 -- number of columns of the right-hand side, and the sizes of kron and kron_sum are the rows and columns of each matrix, the product of the rows and the product of the columns.
--- Column 5 says whose lengths are asked, in this order: A the matrix, B the companion, P the pivots, X an output, w the workspace.
+-- Column 5 says whose lengths are asked, in this order: A the matrix, B the companion, P the pivots, X an output, w the workspace. frechet_sqrtm_sylvester asks what frechet_sqrtm asks.
 --
 --                    1  2  3       4               5          6  7  8  9  10     11
 --   expm             x  x  -       n ≤ 8           A X w      x  -  -  -  -      x
@@ -315,7 +315,7 @@ answer p c x = asked p c >>= λ _. x
 --   kron             -  -  -       sizes ≤ 64      A B X      -  -  -  -  -      -
 --   kron_sum         -  x  square  sizes ≤ 64      A B X      -  -  -  -  -      -
 
--- the ten functions with a code on a sheet: orders 1 to 8, finite entries, a workspace
+-- the eleven functions with a code on a sheet: orders 1 to 8, finite entries, a workspace
 abbrev pub coded : Companion → Exponent → Domain → Orders → Profile
 coded beside power domain orders = record {
   emptiness = atLeastOneRow;
@@ -369,6 +369,7 @@ ofFrechetExpm = coded direction withoutExponent anywhere everyOrder
 abbrev pub ofFrechetLogm : Profile
 ofFrechetLogm = coded direction withoutExponent positive ordersFromTwo
 
+-- frechet_sqrtm and frechet_sqrtm_sylvester
 abbrev pub ofFrechetSqrtm : Profile
 ofFrechetSqrtm = coded direction withoutExponent nonnegative everyOrder
 
