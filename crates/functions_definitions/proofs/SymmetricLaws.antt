@@ -1,6 +1,7 @@
 -- Where the root is symmetric bit for bit, or refused, both derivatives of the root are one: result, report and call. Assumes nothing.
 use Prim.Native.Nat.{ℕ, _*_, _/_, _%_}
-use mathlib.Core.Path.{_≡_, refl, ap, _∙_, subst}
+use native.Mathlib.Omega.{arith}
+use mathlib.Core.Path.{_≡_, refl, sym, ap, _∙_, subst}
 use mathlib.Core.Bool.{cond}
 use mathlib.Core.List.{List, [], _∷_}
 use lib.Dec.{eqb}
@@ -63,6 +64,23 @@ module _ (f : Format) (n : ℕ) (a : List Float) (h : SymmetricRoot f n a) where
           → followed r (rootReport f n a) (λ s. rootDerivativeReport f n s (transposeM n s)) ≡ followed r (rootReport f n a) (λ s. rootDerivativeReport f n s s)
       go (refused k i j) l = refl
       go (done k s) l = ap (beside (rootReport f n a)) (same-derivative-report f n s (l k s refl))
+
+-- `SymmetricRoot` holds where the root is refused, and at order 1, so that the calls answer alike there, too
+pub refused-symmetric : (f : Format) (n k i j : ℕ) (a : List Float) → squareRoot f n a ≡ refused k i j → SymmetricRoot f n a
+refused-symmetric f n k i j a e m s h = absurd (refused≢done (sym e ∙ h))
+  where
+    isDone : {A : Type 0} → Result A → Type 0
+    isDone (refused x y z) = ⊥
+    isDone (done x v) = Unit {0}
+
+    refused≢done : refused k i j ≡ done m s → ⊥
+    refused≢done q = subst isDone (sym q) tt
+
+pub number-symmetric : (f : Format) (a : List Float) → SymmetricRoot f 1 a
+number-symmetric f a k s e i j hi hj =
+    let zi : i ≡ 0 = omega arith in
+    let zj : j ≡ 0 = omega arith in
+    rw (zi, zj) refl
 
 -- the calls ask the same questions, and answer alike
 module _ (f : Format) (r c : ℕ) (a : List Float) (r' c' : ℕ) (e : List Float) (out out' room : ℕ) where
