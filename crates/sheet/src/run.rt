@@ -8,12 +8,12 @@ ghost use Rattle.sheet_encoding.specs.Parse.{SheetIs, tasksAt};
 ghost use Rattle.sheet.specs.Tasks.{workspaceLength, taskLines, sheetLines};
 ghost use Rattle.sheet.specs.Kernels.{TasksRoom};
 ghost use Rattle.sheet_encoding.specs.Kernels.{AllLines};
-use crate::position::exponent_at;
 use crate::task::run_task;
 use arithmetic_matrices::workspace::small_room;
 use sheet_encoding::line::put_sheet_refused;
 use sheet_encoding::parse::Parse;
 use sheet_encoding::parse::parse_sheet;
+use sheet_encoding::position::exponent_at;
 use sheet_encoding::reading::read_numbers;
 
 // The lines of t tasks, the first at q. A refused task has its line like any other, and the next is run.

@@ -15,8 +15,6 @@ ghost use Rattle.sheet_encoding.specs.Parse.{matrixSize, directionAt, exponentA
 ghost use Rattle.sheet.specs.Tasks.{workspaceLength, valueFor, valueReport, derivativeFor, derivativeReport, both, ratio, exponentFor, ending, taskNumbers};
 ghost use Rattle.sheet.specs.Kernels.{TaskRoom, TaskReady};
 ghost use Rattle.sheet_encoding.specs.Kernels.{Lined};
-use crate::position::direction_at;
-use crate::position::exponent_at;
 use arithmetic_questions::answer::Answer;
 use functions_exponential::condition::cond_expm_with;
 use functions_exponential::expm::expm_with;
@@ -31,6 +29,8 @@ use functions_trigonometric::cosm_with;
 use functions_trigonometric::sinm_with;
 use sheet_encoding::line::put_answer;
 use sheet_encoding::parse::takes_direction;
+use sheet_encoding::position::direction_at;
+use sheet_encoding::position::exponent_at;
 use sheet_encoding::reading::read_number;
 use sheet_encoding::reading::read_numbers;
 

@@ -15,7 +15,7 @@ use Rattle.sheet_encoding.specs.declared.parse.Parse.{Parse}
 use Rattle.sheet_encoding.specs.declared.parse.Parse.the-variants.{Sheet, Refused}
 use Rattle.sheet_encoding.specs.Limits.{taskLimit, codeLimit}
 use Rattle.sheet_encoding.specs.Bytes.{byteAt}
-use Rattle.sheet_encoding.specs.Parse.{matrixSize, directionsAt, exponentsAt, tasksAt, sheetLength, byteIn, thenRead, thenParse, bytesAfter, section, order, directionCount, exponentCount, taskCount, indexLimit, task, tasks, parseEnd, parseEach, parseTasks, parseExponents, parseDirections, parseSheet, TaskIs, SheetIs}
+use Rattle.sheet_encoding.specs.Parse.{matrixSize, directionsAt, exponentsAt, tasksAt, sheetLength, valueIn, byteIn, thenRead, thenParse, bytesAfter, section, order, directionCount, exponentCount, taskCount, indexLimit, task, tasks, parseEnd, parseEach, parseTasks, parseExponents, parseDirections, parseSheet, TaskIs, SheetIs}
 
 -- ---- tasks
 
@@ -31,21 +31,21 @@ tasks-more s q d e (suc k) h = let i : suc k - 1 ≡ k = omega arith in rw i
 -- ---- an accepted sheet is as `SheetIs` says
 
 -- what goes on had a value
-record Went {B : Type 0} (x : Read) (k : ℕ → B) (b : B) : Type 0 where
-  value : ℕ
-  is : x ≡ Value value
-  rest : k value ≡ b
+pub record Went {B : Type 0} (x : Read) (k : ℕ → B) (b : B) : Type 0 where
+  pub value : ℕ
+  pub is : x ≡ Value value
+  pub rest : k value ≡ b
 
 went-parse : (x : Read) (k : ℕ → Parse) (n d e t : ℕ) → thenParse x k ≡ Sheet n d e t → Went x k (Sheet n d e t)
 went-parse (Value v) k n d e t h = record { value = v; is = refl; rest = h }
 went-parse (No why) k n d e t h = let z : _≡_ {A = ℕ} 0 1 = cc in absurd (omega arith)
 
-went-read : (x : Read) (k : ℕ → Read) (v : ℕ) → thenRead x k ≡ Value v → Went x k (Value v)
+pub went-read : (x : Read) (k : ℕ → Read) (v : ℕ) → thenRead x k ≡ Value v → Went x k (Value v)
 went-read (Value v) k u h = record { value = v; is = refl; rest = h }
 went-read (No why) k u h = let z : _≡_ {A = ℕ} 0 1 = cc in absurd (omega arith)
 
 -- a test that stands before a value passed
-passed : (b : Bool) (x : Read) (why : SheetRefusal) (v : ℕ) → cond b x (No why) ≡ Value v → (b ≡ true) × (x ≡ Value v)
+pub passed : (b : Bool) (x : Read) (why : SheetRefusal) (v : ℕ) → cond b x (No why) ≡ Value v → (b ≡ true) × (x ≡ Value v)
 passed true x why v h = (refl, h)
 passed false x why v h = let z : _≡_ {A = ℕ} 0 1 = cc in absurd (omega arith)
 
@@ -53,8 +53,21 @@ passed-sheet : (b : Bool) (x : Parse) (why : SheetRefusal) (n d e t : ℕ) → c
 passed-sheet true x why n d e t h = (refl, h)
 passed-sheet false x why n d e t h = let z : _≡_ {A = ℕ} 0 1 = cc in absurd (omega arith)
 
-same-value : (v u : ℕ) → Value v ≡ Value u → v ≡ u
+pub same-value : (v u : ℕ) → Value v ≡ Value u → v ≡ u
 same-value v u h = cc
+
+-- a value in range
+pub record ValueIs (v lo hi w : ℕ) : Type 0 where
+  pub same : v ≡ w
+  pub least : lo ≤ w
+  pub below : w < hi
+
+pub value-is : (v p lo hi w : ℕ) → valueIn v p lo hi ≡ Value w → ValueIs v lo hi w
+value-is v p lo hi w h =
+    let a = passed (leb lo v) (cond (ltb v hi) (Value v) (No (OutOfRange p))) (OutOfRange p) w h in
+    let b = passed (ltb v hi) (Value v) (OutOfRange p) w (a .1) in
+    let e : v ≡ w = same-value v w (b .1) in
+    record { same = e; least = rw e at (leb-true lo v (a .0)); below = rw e at (ltb-true v hi (b .0)) }
 
 -- a byte in range
 pub record ByteIs (s : List ℕ) (p lo hi v : ℕ) : Type 0 where
@@ -66,12 +79,9 @@ pub record ByteIs (s : List ℕ) (p lo hi v : ℕ) : Type 0 where
 pub byteIn-is : (s : List ℕ) (p lo hi v : ℕ) → byteIn s p lo hi ≡ Value v → ByteIs s p lo hi v
 unfolding byteIn
 byteIn-is s p lo hi v h =
-    let x : ℕ = byteAt s p in
-    let a = passed (ltb p (length s)) (cond (leb lo x) (cond (ltb x hi) (Value x) (No (OutOfRange p))) (No (OutOfRange p))) (ByteMissingOrExtra p) v h in
-    let b = passed (leb lo x) (cond (ltb x hi) (Value x) (No (OutOfRange p))) (OutOfRange p) v (a .1) in
-    let c = passed (ltb x hi) (Value x) (OutOfRange p) v (b .1) in
-    let e : x ≡ v = same-value x v (c .1) in
-    record { there = ltb-true p (length s) (a .0); byte = e; least = rw e at (leb-true lo x (b .0)); below = rw e at (ltb-true x hi (c .0)) }
+    let a = passed (ltb p (length s)) (valueIn (byteAt s p) p lo hi) (ByteMissingOrExtra p) v h in
+    let b = value-is (byteAt s p) p lo hi v (a .1) in
+    record { there = ltb-true p (length s) (a .0); byte = b .same; least = b .least; below = b .below }
 
 -- a count with its items, of which the last ends at the position given
 pub record CountIs (s : List ℕ) (p lo v end : ℕ) : Type 0 where
@@ -170,9 +180,12 @@ sheet-is s n d e t h =
 
 -- ---- what `SheetIs` describes is accepted
 
+pub value-yes : (v p lo hi : ℕ) → lo ≤ v → v < hi → valueIn v p lo hi ≡ Value v
+value-yes v p lo hi a b = rw (le-leb lo v a, lt-ltb v hi b)
+
 byteIn-value : (s : List ℕ) (p lo hi v : ℕ) → p < length s → byteAt s p ≡ v → lo ≤ v → v < hi → byteIn s p lo hi ≡ Value v
 unfolding byteIn
-byteIn-value s p lo hi v l b m h = rw (lt-ltb p (length s) l, b, le-leb lo v m, lt-ltb v hi h)
+byteIn-value s p lo hi v l b m h = rw (lt-ltb p (length s) l, b) (value-yes v p lo hi m h)
 
 bytesAfter-value : (s : List ℕ) (p k v : ℕ) → p + k ≤ length s → bytesAfter s p k v ≡ Value v
 bytesAfter-value s p k v l = rw (le-leb (p + k) (length s) l)

@@ -8,7 +8,7 @@ use lib.Dec.{ltb, leb, eqb}
 use lib.ListN.{length}
 use Rattle.arithmetic_questions.specs.Result.{Result, refused}
 use Rattle.sheet_encoding.specs.declared.parse.SheetRefusal.{SheetRefusal}
-use Rattle.sheet_encoding.specs.declared.parse.SheetRefusal.the-variants.{ByteMissingOrExtra, OutOfRange}
+use Rattle.sheet_encoding.specs.declared.parse.SheetRefusal.the-variants.{ByteMissingOrExtra, OutOfRange, WrongLength}
 use Rattle.sheet_encoding.specs.declared.parse.Read.{Read}
 use Rattle.sheet_encoding.specs.declared.parse.Read.the-variants.{Value, No}
 use Rattle.sheet_encoding.specs.declared.parse.Parse.{Parse}
@@ -16,10 +16,11 @@ use Rattle.sheet_encoding.specs.declared.parse.Parse.the-variants.{Sheet
 use Rattle.sheet_encoding.specs.Limits.{taskLimit, codeLimit}
 use Rattle.sheet_encoding.specs.Bytes.{byteAt}
 
--- document 01's number of a sheet's refusal, with the position of the byte
+-- document 01's number of a sheet's refusal, with the position of the byte, or the lengths found and wanted
 abbrev pub sheetNumbered : SheetRefusal → Result (Unit {0})
 sheetNumbered (ByteMissingOrExtra p) = refused 15 p 0
 sheetNumbered (OutOfRange p) = refused 16 p 0
+sheetNumbered (WrongLength x y) = refused 5 x y
 
 -- ---- where the four sections stand: each is a count byte and the items that it counts
 
@@ -54,12 +55,13 @@ sheetLength n d e t = taskAt n d e t
 
 -- ---- bytes that are read
 
--- the byte at p, which has to be there, and lie from lo up to, not including, hi
+-- v, the value of the byte at p, has to lie from lo up to, not including, hi
+abbrev pub valueIn : ℕ → ℕ → ℕ → ℕ → Read
+valueIn v p lo hi = cond (leb lo v) (cond (ltb v hi) (Value v) (No (OutOfRange p))) (No (OutOfRange p))
+
+-- the byte at p has to be there, and then to lie in its range
 unfoldable pub byteIn : List ℕ → ℕ → ℕ → ℕ → Read
-byteIn s p lo hi =
-    cond (ltb p (length s))
-    (cond (leb lo (byteAt s p)) (cond (ltb (byteAt s p) hi) (Value (byteAt s p)) (No (OutOfRange p))) (No (OutOfRange p)))
-    (No (ByteMissingOrExtra p))
+byteIn s p lo hi = cond (ltb p (length s)) (valueIn (byteAt s p) p lo hi) (No (ByteMissingOrExtra p))
 
 -- v, where k bytes from p on are there
 abbrev pub bytesAfter : List ℕ → ℕ → ℕ → ℕ → Read

@@ -22,10 +22,10 @@ use arithmetic_questions::answer::Outcome;
 use arithmetic_questions::answer::Refusal;
 
 // The number of a refusal and its two details, 0 where there are none.
-struct Code {
-    number: usize,
-    first: usize,
-    second: usize,
+pub struct Code {
+    pub number: usize,
+    pub first: usize,
+    pub second: usize,
 }
 
 // The line of a refused task or sheet.
@@ -106,12 +106,13 @@ fn code_of(why: Refusal) -> Code
 }
 
 // The number and the details of a sheet's refusal.
-fn sheet_code_of(why: SheetRefusal) -> Code
+pub fn sheet_code_of(why: SheetRefusal) -> Code
     ensures { λ r. ⌜ sheetNumbered why ≡ refused (r .number) (r .first) (r .second) ⌝ }
 {
     match why {
         SheetRefusal::ByteMissingOrExtra(p) => coded(15, p, 0),
         SheetRefusal::OutOfRange(p) => coded(16, p, 0),
+        SheetRefusal::WrongLength(x, y) => coded(5, x, y),
     }
 }
 

@@ -2,17 +2,19 @@
 ghost use mathlib.Core.Path.{_≡_};
 ghost use Prim.Native.Nat.{_+_, _*_, _≤_, _<_};
 ghost use Rattle.sheet_encoding.specs.Limits.{taskLimit};
-ghost use Rattle.sheet_encoding.specs.Parse.{directionsAt, exponentsAt, tasksAt, sheetLength, byteIn, bytesAfter, takesDirection, indexLimit, parseEnd, parseEach, parseTasks, parseExponents, parseDirections, parseSheet, order as orderOf, section as sectionOf, task as taskOf, tasks as tasksOf};
+ghost use Rattle.sheet_encoding.specs.Parse.{directionsAt, exponentsAt, tasksAt, sheetLength, valueIn, byteIn, bytesAfter, takesDirection, indexLimit, parseEnd, parseEach, parseTasks, parseExponents, parseDirections, parseSheet, order as orderOf, section as sectionOf, task as taskOf, tasks as tasksOf};
 ghost use Rattle.sheet_encoding.specs.Kernels.{valueOf};
 
-// Why a sheet is refused: the position of the first missing or extra byte, or that of a count, code or index out of range.
+// Why a sheet, or a call that makes one, is refused: the position of the first missing or extra byte; that of a count, code or index out of range; or a
+// length found, and the one wanted.
 pub enum SheetRefusal {
     ByteMissingOrExtra(usize),
     OutOfRange(usize),
+    WrongLength(usize, usize),
 }
 
 // The codes of tasks are those below.
-const CODE_LIMIT: usize = 11;
+pub const CODE_LIMIT: usize = 11;
 
 // A byte's value, or why the sheet is refused.
 pub enum Read {
@@ -26,6 +28,20 @@ pub enum Parse {
     Refused(SheetRefusal),
 }
 
+// v, the value of the byte at p, from lo up to, not including, hi.
+pub fn value_in(v: usize, p: usize, lo: usize, hi: usize) -> Read
+    ensures { λ r. ⌜ r ≡ valueIn v p lo hi ⌝ }
+    ensures { λ r. ⌜ (0 < hi → valueOf r < hi) ⌝ }
+{
+    if v < lo {
+        return Read::No(SheetRefusal::OutOfRange(p));
+    }
+    if hi <= v {
+        return Read::No(SheetRefusal::OutOfRange(p));
+    }
+    Read::Value(v)
+}
+
 // The byte at p, from lo up to, not including, hi.
 fn byte_in(s: &[u8], p: usize, lo: usize, hi: usize) -> Read
     ensures { λ r. ⌜ r ≡ byteIn (now (s .entry)) p lo hi ⌝ }
@@ -35,13 +51,7 @@ fn byte_in(s: &[u8], p: usize, lo: usize, hi: usize) -> Read
         return Read::No(SheetRefusal::ByteMissingOrExtra(p));
     }
     let v = s[p] as usize;
-    if v < lo {
-        return Read::No(SheetRefusal::OutOfRange(p));
-    }
-    if hi <= v {
-        return Read::No(SheetRefusal::OutOfRange(p));
-    }
-    Read::Value(v)
+    value_in(v, p, lo, hi)
 }
 
 // v, where k bytes from p on are there.
@@ -89,7 +99,7 @@ pub fn takes_direction(code: usize) -> bool
 }
 
 // How many values the index of a task may have.
-fn index_limit(code: usize, d: usize, e: usize) -> usize
+pub fn index_limit(code: usize, d: usize, e: usize) -> usize
     ensures { λ r. ⌜ r ≡ indexLimit code d e ⌝ }
 {
     if code == 3 {

@@ -18,6 +18,12 @@ returns-2 c =
     let why2 : tie.After-why2 = search in
     coded-as (ap sheetNumbered (why2 .why2 .given .1)) (coded2 .coded2 .ensures)
 
+returns-3 : tie.Need-returns-3
+returns-3 c =
+    let coded3 : tie.After-coded3 = search in
+    let why3 : tie.After-why3 = search in
+    coded-as (ap sheetNumbered (why3 .why3 .given .1)) (coded3 .coded3 .ensures)
+
 pub sheet-code-of-spec : {M : Type 1} → statement M
 sheet-code-of-spec =
     tie.close
@@ -26,5 +32,8 @@ sheet-code-of-spec =
     (λ c κs. search needs)
     (λ c. search needs)
     (λ c κs. search needs)
+    (λ c. search needs)
+    (λ c κs. search needs)
     returns
-    returns-2)
+    returns-2
+    returns-3)

@@ -3,8 +3,8 @@ use Prim.Native.Nat.{_*_}
 use mathlib.Core.Path.{refl}
 use native.Mathlib.Nat.{mul-le-mul}
 use native.Mathlib.Omega.{arith}
-use Rattle.sheet.proofs.position.direction_at.Statement.{statement}
-use Rattle.sheet.proofs.position.direction_at.Tie as tie
+use Rattle.sheet_encoding.proofs.position.direction_at.Statement.{statement}
+use Rattle.sheet_encoding.proofs.position.direction_at.Tie as tie
 
 mul-size : tie.Need-mul-size
 mul-size c =
