@@ -7,8 +7,8 @@ mod magnitudes;
 mod source;
 mod timing;
 
-use compare::entry::{ABSENT, Entry, ROOM, port};
 use compare::sheet::Sheet;
+use entry::{ABSENT, ROOM, Run, port};
 use inputs::{TIMED, overhead};
 use std::hint::black_box;
 use std::process::exit;
@@ -24,7 +24,7 @@ struct Times {
 }
 
 /// The output is lent once and not cleared between the runs.
-fn measure(entry: Entry, s: &Sheet, samples: usize, least: Duration) -> Times {
+fn measure(entry: Run, s: &Sheet, samples: usize, least: Duration) -> Times {
     let (bytes, smallest) = (s.bytes(), source::smallest(s));
     let mut written = [vec![0; ROOM], vec![0; ROOM]];
     let [first, second] = &mut written;
@@ -45,7 +45,7 @@ fn measure(entry: Entry, s: &Sheet, samples: usize, least: Duration) -> Times {
     Times { port, source, calls }
 }
 
-fn report(entry: Entry, samples: usize, least: Duration) {
+fn report(entry: Run, samples: usize, least: Duration) {
     for n in 2..=8 {
         let t = measure(entry, &overhead(n), samples, least);
         println!("overhead {n} port {:.0} ns source {:.0} ns", t.port, t.source);
@@ -62,11 +62,11 @@ fn report(entry: Entry, samples: usize, least: Duration) {
 }
 
 fn sheets(samples: usize, least: Duration) {
-    let Some(entry) = port() else {
+    let Some(port) = port() else {
         eprintln!("bench: {ABSENT}");
         exit(2)
     };
-    report(entry, samples, least);
+    report(port.run, samples, least);
 }
 
 fn main() {

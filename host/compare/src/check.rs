@@ -1,7 +1,7 @@
 //! Calls the entry, and checks what it wrote and what it reported.
 
-use crate::entry::Entry;
 use crate::expected::Line;
+use entry::Run;
 
 /// Bytes before and after the lent output, which the entry must not touch either.
 const GUARD: usize = 64;
@@ -12,7 +12,7 @@ fn lent_byte(at: usize) -> u8 {
 }
 
 /// The bytes that the entry wrote into a lent output of this length; or what it did to bytes that are not its own, or a report that cannot be.
-pub fn call(entry: Entry, bytes: &[u8], lent: usize) -> Result<Vec<u8>, String> {
+pub fn call(entry: Run, bytes: &[u8], lent: usize) -> Result<Vec<u8>, String> {
     let mut memory: Vec<u8> = (0..lent + 2 * GUARD).map(lent_byte).collect();
     let reported = entry(bytes, &mut memory[GUARD..GUARD + lent]);
     if reported > lent {
@@ -40,7 +40,7 @@ fn is_shaped(line: &str, task: usize, count: usize) -> bool {
 
 /// Calls the entry and compares what it wrote with the lines of an output of this length. Gives how many of the lines that are left out are the source's all
 /// the same, or what the entry did otherwise than expected.
-pub fn check(entry: Entry, bytes: &[u8], lent: usize, lines: &[Line]) -> Result<usize, String> {
+pub fn check(entry: Run, bytes: &[u8], lent: usize, lines: &[Line]) -> Result<usize, String> {
     let written = call(entry, bytes, lent)?;
     let text = String::from_utf8_lossy(&written);
     let mut found = text.split_inclusive('\n');

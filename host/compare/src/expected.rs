@@ -1,7 +1,7 @@
 //! What the entry must do with a sheet: document 01's lines with the numbers of the source, each ended by the smallest pivot of document 02's #103.
 
-use crate::entry::ROOM;
 use crate::sheet::{Sheet, read};
+use entry::ROOM;
 use std::fmt::Write;
 use vectors::answer::answer;
 use vectors::call::{Function, Outcome, Refusal, word};

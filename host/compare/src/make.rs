@@ -1,7 +1,7 @@
 //! Sheets to try, made from a seed and a number: good ones, damaged copies, and lent outputs that are too short.
 
-use crate::entry::ROOM;
 use crate::sheet::{Sheet, Task};
+use entry::ROOM;
 use vectors::call::{CODES, Function};
 use vectors::cases::{direction, exponent};
 use vectors::matrices::{matrix, spoil};
@@ -88,9 +88,13 @@ fn damaged(sheet: &Sheet, r: &mut Random) -> Vec<u8> {
 /// Lengths of lent outputs: too short, at the limit that stood before #103 and beside the one that stands, and longer.
 const LENT: [usize; 8] = [0, 1, 17_750, 35_000, ROOM - 1, ROOM + 1, ROOM + 64, 2 * ROOM];
 
-/// A trial depends on the seed and its number only, so that one can be run again alone.
+/// What a trial is made from: it depends on the seed and the trial's number only, so that one can be run again alone.
+pub fn random(seed: u64, number: u64) -> Random {
+    Random::new(Random::new(seed).bits() ^ number.wrapping_mul(0x9e37_79b9_7f4a_7c15))
+}
+
 pub fn trial(seed: u64, number: u64) -> Trial {
-    let mut r = Random::new(Random::new(seed).bits() ^ number.wrapping_mul(0x9e37_79b9_7f4a_7c15));
+    let mut r = random(seed, number);
     let sheet = sheet(&mut r);
     let bytes = if r.once_in(5) { damaged(&sheet, &mut r) } else { sheet.bytes() };
     let lent = if r.once_in(10) { r.pick(&LENT) } else { ROOM };

@@ -1,11 +1,11 @@
 //! Runs trials against an entry, up to the first that differs.
 
 use crate::check::check;
-use crate::entry::Entry;
 use crate::expected::expected;
 use crate::make::{Trial, trial};
 use crate::shrink::shrink;
 use crate::tally::Tally;
+use entry::Run;
 use std::fmt;
 
 /// A difference: the number of the trial, the least sheet found that shows it, the length of the lent output, and what differs.
@@ -26,12 +26,12 @@ impl fmt::Display for Difference {
 }
 
 /// What the entry does otherwise than expected with these bytes and a lent output of this length, if anything.
-fn fault(entry: Entry, bytes: &[u8], lent: usize) -> Option<String> {
+fn fault(entry: Run, bytes: &[u8], lent: usize) -> Option<String> {
     check(entry, bytes, lent, &expected(bytes, lent).lines()).err()
 }
 
 /// The least sheet found that shows the difference of trial number.
-fn difference(entry: Entry, number: u64, t: &Trial) -> Difference {
+fn difference(entry: Run, number: u64, t: &Trial) -> Difference {
     let sheet = shrink(&t.bytes, |less| fault(entry, less, t.lent).is_some());
     let fault = fault(entry, &sheet, t.lent).unwrap_or_else(|| "not at each call".to_string());
     Difference { number, sheet, lent: t.lent, fault }
@@ -39,7 +39,7 @@ fn difference(entry: Entry, number: u64, t: &Trial) -> Difference {
 
 /// The counts of all trials, or the first difference. `progress` sees the counts after each trial.
 pub fn run(
-    entry: Entry,
+    entry: Run,
     seed: u64,
     numbers: std::ops::Range<u64>,
     mut progress: impl FnMut(u64, &Tally),

@@ -1,9 +1,9 @@
 //! The harness itself, tried on a stand-in for the entry that writes the expected output, and on stand-ins with a fault.
 
-use compare::entry::{Entry, ROOM};
 use compare::expected::{Line, expected};
 use compare::run::{Difference, run};
 use compare::sheet::{Sheet, Task, read};
+use entry::{ROOM, Run};
 use vectors::answer::answer;
 use vectors::call::{CODES, Outcome, Refusal};
 
@@ -33,7 +33,7 @@ fn stand_in(bytes: &[u8], output: &mut [u8]) -> usize {
     put(output, &text)
 }
 
-fn first_difference(entry: Entry) -> Difference {
+fn first_difference(entry: Run) -> Difference {
     run(entry, 1, 0..400, |_, _| {}).err().expect("a difference")
 }
 

@@ -1,10 +1,10 @@
 //! Document 01's sheet: its last line, and questions 15 and 16.
 
-use compare::entry::ROOM;
 use compare::expected::{Expected, Line, expected};
 use compare::make::sheet;
 use compare::samples::samples;
 use compare::sheet::read;
+use entry::ROOM;
 use std::path::Path;
 use vectors::call::Refusal;
 use vectors::random::Random;
