@@ -1,5 +1,5 @@
 -- The root of q * 2 ^ e smallest values, over the format, from the digits of q moved to the top of a word of 64. Assumes nothing.
-use Rattle.std.proofs.Common.{◌≡◌, ℕ, zero, suc, ◌+◌, ◌-◌, ◌*◌, ◌/◌, ◌%◌, ◌^◌, ◌<◌, ◌≤◌, false, sym, refl, ap, ◌∙◌, subst, le_trans, le_of_eq, lt_of_lt_of_le, lt_of_le_of_lt, lt_irrefl, mul-le-mul_right, mul_assoc, suc-mul, add-mul, lt_of_mul-lt-mul_right, pow-suc, lt_of_not-le, le_of_mul-le-mul_right, add-one, arith, lit≤, pow_pos, pow_mono, pow-add, shl_lt, shl_exact}
+use Rattle.std.proofs.Common.{◌≡◌, ℕ, zero, suc, ◌+◌, ◌-◌, ◌*◌, ◌/◌, ◌%◌, ◌^◌, ◌<◌, ◌≤◌, false, sym, refl, ap, ◌∙◌, subst, le_trans, le_of_eq, lt_of_lt_of_le, lt_of_le_of_lt, lt_irrefl, mul-le-mul_right, mul_assoc, suc-mul, add-mul, lt_of_mul_lt_mul_right, pow-suc, lt_of_not-le, le_of_mul-le-mul_right, add-one, arith, lit≤, pow_pos, pow_mono, pow-add, shl_lt, shl_exact}
 use native.Mathlib.Nat.{mul-mod_left}
 use lib.Pow.{pow-lt}
 use lib.Count.{count_leading_zeros, leading_top, leading_le}
@@ -129,23 +129,23 @@ module _ (f : Format) (q e : ℕ) (S : Scaled f q e) where
     root_is : IsRoot (q * 2 ^ t) r
     root_is = (
       le_of_mul-le-mul_right (le_trans R.0 (le_of_eq read)) (pow_pos 64),
-      lt_of_mul-lt-mul_right (2 ^ 64) (subst (λ (x : ℕ). q * 2 ^ t * 2 ^ 64 < x * x * 2 ^ 64) (add-one r) (lt_of_le_of_lt (le_of_eq (sym read)) R.1)),
+      lt_of_mul_lt_mul_right (2 ^ 64) (subst (λ (x : ℕ). q * 2 ^ t * 2 ^ 64 < x * x * 2 ^ 64) (add-one r) (lt_of_le_of_lt (le_of_eq (sym read)) R.1)),
     )
 
-    r-ge : 2 ^ p ≤ r
-    r-ge = sq_le_back (2 ^ p) r (lt_of_le_of_lt number_ge root_is.1)
+    r_ge : 2 ^ p ≤ r
+    r_ge = sq_le_back (2 ^ p) r (lt_of_le_of_lt number_ge root_is.1)
 
-    pub r-lt : r < 2 ^ suc p
-    r-lt = sq_lt_back r (2 ^ suc p) (lt_of_le_of_lt root_is.0 number_lt)
+    pub r_lt : r < 2 ^ suc p
+    r_lt = sq_lt_back r (2 ^ suc p) (lt_of_le_of_lt root_is.0 number_lt)
 
-    digits-ge : hid f ≤ (r + 1) / 2
-    digits-ge = omega (arith, r-ge, twice_hid f)
+    digits_ge : hid f ≤ (r + 1) / 2
+    digits_ge = omega (arith, r_ge, twice_hid f)
 
     digits_le : (r + 1) / 2 ≤ 2 ^ p
-    digits_le = omega (arith, r-lt, pow-suc 2 p)
+    digits_le = omega (arith, r_lt, pow-suc 2 p)
 
-    pub bits-lt : unit * hid f + (r + 1) / 2 < ones f * hid f
-    bits-lt = lt_of_lt_of_le sum (le_trans (le_of_eq (sym (suc-mul (unit + 2) (hid f)))) (mul-le-mul_right (hid f) unit_lt))
+    pub bits_lt : unit * hid f + (r + 1) / 2 < ones f * hid f
+    bits_lt = lt_of_lt_of_le sum (le_trans (le_of_eq (sym (suc-mul (unit + 2) (hid f)))) (mul-le-mul_right (hid f) unit_lt))
       where
         sum : unit * hid f + (r + 1) / 2 < (unit + 2) * hid f + hid f
         sum = omega (arith, digits_le, twice_hid f, add-mul unit 2 (hid f), pow_pos (p - 1))
@@ -157,6 +157,6 @@ module _ (f : Format) (q e : ℕ) (S : Scaled f q e) where
 
     pub bits_are : of_bits f (unit * hid f + (r + 1) / 2) ≡ sqrt_units f (q * 2 ^ e)
     bits_are =
-        bits_units f ((r + 1) / 2) unit digits-ge digits_le fine
+        bits_units f ((r + 1) / 2) unit digits_ge digits_le fine
         ∙ ap (λ (k : ℕ). units f false ((r + 1) / 2) k) unit_suc
-        ∙ sym (root_rounds f (q * 2 ^ e) (q * 2 ^ t) (unit - 1) r (regroup q e (low f) t (unit - 1) halves) root_is r-ge r-lt even)
+        ∙ sym (root_rounds f (q * 2 ^ e) (q * 2 ^ t) (unit - 1) r (regroup q e (low f) t (unit - 1) halves) root_is r_ge r_lt even)

@@ -36,25 +36,25 @@ module _ (f : Format) (x : Float) (held : T (fits f x)) (above : T (lt +zero x))
     small : to_bits f x < hid f
     small = subst (λ (y : ℕ). to_bits f x < y) (one-mul (hid f)) ((div-lt_iff_lt-mul hid_pos).0 (subst (λ (y : ℕ). y < 1) (sym z) (zero-lt-suc 0)))
 
-    is-low : x ≡ odd (prec f) false (to_bits f x % hid f) 0 (low f)
-    is-low = sym back ∙ of_bits_low f (to_bits f x) small ∙ ap (λ (b : ℕ). odd (prec f) false b 0 (low f)) (sym (mod-eq_of_lt small))
+    is_low : x ≡ odd (prec f) false (to_bits f x % hid f) 0 (low f)
+    is_low = sym back ∙ of_bits_low f (to_bits f x) small ∙ ap (λ (b : ℕ). odd (prec f) false b 0 (low f)) (sym (mod-eq_of_lt small))
 
     none : T (lt +zero (odd (prec f) false 0 0 (low f))) → ⊥
     unfolding lt odd
     none t = t
 
-    pub digits-pos : 0 < to_bits f x % hid f
-    digits-pos = go (eq-zero-or-pos (to_bits f x % hid f))
+    pub digits_pos : 0 < to_bits f x % hid f
+    digits_pos = go (eq-zero-or-pos (to_bits f x % hid f))
       where
         go : (to_bits f x % hid f ≡ 0) ⊎ (0 < to_bits f x % hid f) → 0 < to_bits f x % hid f
-        go (inl e) = absurd (none (subst (λ (v : Float). T (lt +zero v)) (is-low ∙ ap (λ (b : ℕ). odd (prec f) false b 0 (low f)) e) above))
+        go (inl e) = absurd (none (subst (λ (v : Float). T (lt +zero v)) (is_low ∙ ap (λ (b : ℕ). odd (prec f) false b 0 (low f)) e) above))
         go (inr p) = p
 
     pub value_low : HasValue x false (to_bits f x % hid f * 2 ^ 0) (2 ^ low f)
-    value_low = subst (λ (v : Float). HasValue v false (to_bits f x % hid f * 2 ^ 0) (2 ^ low f)) (sym is-low) (odd_sign (prec f) false (to_bits f x % hid f) 0 (low f))
+    value_low = subst (λ (v : Float). HasValue v false (to_bits f x % hid f * 2 ^ 0) (2 ^ low f)) (sym is_low) (odd_sign (prec f) false (to_bits f x % hid f) 0 (low f))
 
-    pub sqrt-low : sqrt_of f x ≡ sqrt_units f (to_bits f x % hid f * 2 ^ 0)
-    sqrt-low = sqrt_of_of f x (to_bits f x % hid f * 2 ^ 0) (mul-pos digits-pos (pow_pos 0)) value_low
+    pub sqrt_low : sqrt_of f x ≡ sqrt_units f (to_bits f x % hid f * 2 ^ 0)
+    sqrt_low = sqrt_of_of f x (to_bits f x % hid f * 2 ^ 0) (mul-pos digits_pos (pow_pos 0)) value_low
 
   -- normal
   module _ (p : 0 < to_bits f x / hid f) (l : to_bits f x / hid f < ones f) where
@@ -68,8 +68,8 @@ module _ (f : Format) (x : Float) (held : T (fits f x)) (above : T (lt +zero x))
         subst (λ (q : ℕ). HasValue x false (q * 2 ^ (b / hid f - 1)) (2 ^ low f)) (add_comm (hid f) (b % hid f))
         (subst (λ (v : Float). HasValue v false ((hid f + b % hid f) * 2 ^ (b / hid f - 1)) (2 ^ low f)) (sym is) (odd_sign (prec f) false (hid f + b % hid f) (b / hid f - 1) (low f)))
 
-    pub sqrt-mid : sqrt_of f x ≡ sqrt_units f ((b % hid f + hid f) * 2 ^ (b / hid f - 1))
-    sqrt-mid = sqrt_of_of f x ((b % hid f + hid f) * 2 ^ (b / hid f - 1)) (mul-pos (lt_of_lt_of_le hid_pos (le-add_left (hid f) (b % hid f))) (pow_pos (b / hid f - 1))) value_mid
+    pub sqrt_mid : sqrt_of f x ≡ sqrt_units f ((b % hid f + hid f) * 2 ^ (b / hid f - 1))
+    sqrt_mid = sqrt_of_of f x ((b % hid f + hid f) * 2 ^ (b / hid f - 1)) (mul-pos (lt_of_lt_of_le hid_pos (le-add_left (hid f) (b % hid f))) (pow_pos (b / hid f - 1))) value_mid
 
   -- the infinity
   pub is_infinity : ones f ≤ to_bits f x / hid f → x ≡ inf false

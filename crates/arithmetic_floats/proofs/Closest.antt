@@ -76,11 +76,11 @@ module _ (f : Format) (n : ℕ) (n_pos : 0 < n) (c : Counted f n) where
     at : mid.Spaced (prec f) N c.m (c.j + low f) p_pos some_zeros is c.m_lt (count f y)
     at = let d = counted f y h in spaced (prec f) (count f y) d.m d.j k p_pos d.is d.m_lt
 
-    over-it : count f y < count f (sqrt_units f n) → (count f y + count f (sqrt_units f n)) * (count f y + count f (sqrt_units f n)) < 4 * N
-    over-it = subst (λ (x : ℕ). count f y < x → (count f y + x) * (count f y + x) < 4 * N) (sym counts) (mid.over (prec f) N c.m (c.j + low f) p_pos some_zeros is c.m_lt (count f y) at)
+    over_it : count f y < count f (sqrt_units f n) → (count f y + count f (sqrt_units f n)) * (count f y + count f (sqrt_units f n)) < 4 * N
+    over_it = subst (λ (x : ℕ). count f y < x → (count f y + x) * (count f y + x) < 4 * N) (sym counts) (mid.over (prec f) N c.m (c.j + low f) p_pos some_zeros is c.m_lt (count f y) at)
 
-    under-it : count f (sqrt_units f n) < count f y → 4 * N < (count f y + count f (sqrt_units f n)) * (count f y + count f (sqrt_units f n))
-    under-it = subst (λ (x : ℕ). x < count f y → 4 * N < (count f y + x) * (count f y + x)) (sym counts) (mid.under (prec f) N c.m (c.j + low f) p_pos some_zeros is c.m_lt (count f y) at)
+    under_it : count f (sqrt_units f n) < count f y → 4 * N < (count f y + count f (sqrt_units f n)) * (count f y + count f (sqrt_units f n))
+    under_it = subst (λ (x : ℕ). x < count f y → 4 * N < (count f y + x) * (count f y + x)) (sym counts) (mid.under (prec f) N c.m (c.j + low f) p_pos some_zeros is c.m_lt (count f y) at)
 
   pub plus_it : T (positive (sqrt_units f n))
   plus_it =
@@ -107,8 +107,8 @@ sqrt_nearest f x h p =
     (record {
       held = fits_it f (count f x) n c;
       plus = plus_it f (count f x) n c;
-      over = over-it f (count f x) n c;
-      under = under-it f (count f x) n c;
+      over = over_it f (count f x) n c;
+      under = under_it f (count f x) n c;
     })
 
 -- ---- and it is the only one

@@ -1,6 +1,6 @@
 -- The root of N, cut to its p leading digits and moved up by the test on squares, is nearer to the exact root than any other number of p digits with zeros after it.
 -- N is a number of at most p digits with zeros after it, one at least. Nothing here is about floats. Assumes nothing.
-use Rattle.std.proofs.Common.{◌≡◌, ℕ, zero, suc, ◌+◌, ◌-◌, ◌*◌, ◌/◌, ◌^◌, ◌<◌, ◌≤◌, ◌⊎◌, sym, refl, ap, ◌∙◌, subst, inl, inr, suc-le-suc, le_trans, le_of_eq, le_refl, lt_of_lt_of_le, le_of_suc-le-suc, lt_of_le_of_lt, le_of_lt, lt_irrefl, mul-le-mul_right, mul_assoc, suc-mul, mul_comm, add-mul, mul-le-mul, lt_of_mul-lt-mul_right, eq-or-lt_of_le, mul-lt-mul_of_pos_right, mul-pos, pow-suc, lt_of_not-le, le-div_iff_mul-le, mul-one, not-le_of_lt, div-mul-le_self, div-one, mul_left_comm, arith, pow_pos, pow_mono, pow-add, shl_lt}
+use Rattle.std.proofs.Common.{◌≡◌, ℕ, zero, suc, ◌+◌, ◌-◌, ◌*◌, ◌/◌, ◌^◌, ◌<◌, ◌≤◌, ◌⊎◌, sym, refl, ap, ◌∙◌, subst, inl, inr, suc-le-suc, le_trans, le_of_eq, le_refl, lt_of_lt_of_le, le_of_suc-le-suc, lt_of_le_of_lt, le_of_lt, lt_irrefl, mul-le-mul_right, mul_assoc, suc-mul, mul_comm, add-mul, mul-le-mul, lt_of_mul_lt_mul_right, eq-or-lt_of_le, mul-lt-mul_of_pos_right, mul-pos, pow-suc, lt_of_not-le, le-div_iff_mul-le, mul-one, not-le_of_lt, div-mul-le_self, div-one, mul_left_comm, arith, pow_pos, pow_mono, pow-add, shl_lt}
 use Prim.Native.Nat.{compare}
 use native.Mathlib.Nat.{mul-mul-mul_comm, eq_of_mul-eq-mul_right, lt-div-mul-add}
 use native.Mathlib.Decide.{dec_le}
@@ -16,10 +16,10 @@ sq_le : {a b : ℕ} → a ≤ b → a * a ≤ b * b
 sq_le h = mul-le-mul h h
 
 sq_lt : (a b : ℕ) → a < b → a * a < b * b
-sq_lt a b h = lt_of_le_of_lt (mul-le-mul (le_refl a) (le_of_lt h)) (mul-lt-mul_of_pos_right h (lt_of_le_of_lt zero-le' h))
+sq_lt a b h = lt_of_le_of_lt (mul-le-mul (le_refl a) (le_of_lt h)) (mul-lt-mul_of_pos_right h (lt_of_le_of_lt zero_le' h))
   where
-    zero-le' : 0 ≤ a
-    zero-le' = omega arith
+    zero_le' : 0 ≤ a
+    zero_le' = omega arith
 
 sq_dbl : (c : ℕ) → (c + c) * (c + c) ≡ 4 * (c * c)
 sq_dbl c = ap (λ (x : ℕ). x * x) (twice c) ∙ sq_twice c
@@ -156,11 +156,11 @@ module _ (p N m i : ℕ) (P : 0 < p) (I : 0 < i) (is : N ≡ m * 2 ^ i) (small :
       go (suc h) e = inr (lt_of_lt_of_le x (le_trans (le_of_eq (pow-add 2 (p - 1) k)) (mul-le-mul_right (2 ^ k) (kept h e))))
 
   next_above : (t : ℕ) → Placed t → q * 2 ^ k < t → suc q * 2 ^ k ≤ t
-  next_above t (inl x) l = le_trans (mul-le-mul_right (2 ^ k) (lt_of_mul-lt-mul_right (2 ^ k) (subst (λ (y : ℕ). q * 2 ^ k < y) x.1 l))) (le_of_eq (sym x.1))
+  next_above t (inl x) l = le_trans (mul-le-mul_right (2 ^ k) (lt_of_mul_lt_mul_right (2 ^ k) (subst (λ (y : ℕ). q * 2 ^ k < y) x.1 l))) (le_of_eq (sym x.1))
   next_above t (inr x) l = absurd (not-le_of_lt x (le_of_lt l))
 
   next_below : (t : ℕ) → Placed t → t < suc q * 2 ^ k → t ≤ q * 2 ^ k
-  next_below t (inl x) l = le_trans (le_of_eq x.1) (mul-le-mul_right (2 ^ k) (le_of_suc-le-suc (lt_of_mul-lt-mul_right (2 ^ k) (subst (λ (y : ℕ). y < suc q * 2 ^ k) x.1 l))))
+  next_below t (inl x) l = le_trans (le_of_eq x.1) (mul-le-mul_right (2 ^ k) (le_of_suc-le-suc (lt_of_mul_lt_mul_right (2 ^ k) (subst (λ (y : ℕ). y < suc q * 2 ^ k) x.1 l))))
   next_below t (inr x) l = le_of_lt x
 
   -- ---- the result
@@ -180,11 +180,11 @@ module _ (p N m i : ℕ) (P : 0 < p) (I : 0 < i) (is : N ≡ m * 2 ^ i) (small :
   pub rounded_pos : 0 < N → 0 < rounded
   rounded_pos n = lt_of_lt_of_le (go k refl) (nearest-ge q (compare (4 * N) (mid * mid)))
     where
-      w-pos : 0 < w
-      w-pos = lt_of_not-le (λ (g : w ≤ 0). not-le_of_lt (lt_of_lt_of_le (isqrt_is N).1 (sq_le (suc-le-suc g))) n)
+      w_pos : 0 < w
+      w_pos = lt_of_not-le (λ (g : w ≤ 0). not-le_of_lt (lt_of_lt_of_le (isqrt_is N).1 (sq_le (suc-le-suc g))) n)
 
       go : (j : ℕ) → k ≡ j → 0 < q
-      go zero e = subst (λ (y : ℕ). 0 < w / 2 ^ y) (sym e) (subst (λ (y : ℕ). 0 < y) (sym (div-one w)) w-pos)
+      go zero e = subst (λ (y : ℕ). 0 < w / 2 ^ y) (sym e) (subst (λ (y : ℕ). 0 < y) (sym (div-one w)) w_pos)
       go (suc h) e = lt_of_lt_of_le (pow_pos (p - 1)) (kept h e)
 
   module _ (t : ℕ) (T : Spaced t) where
@@ -194,8 +194,8 @@ module _ (p N m i : ℕ) (P : 0 < p) (I : 0 < i) (is : N ≡ m * 2 ^ i) (small :
         add : {a b : ℕ} (c : ℕ) → a < b → a + c < b + c
         add c h = omega arith
 
-        add-le : {a b : ℕ} (c : ℕ) → a ≤ b → a + c ≤ b + c
-        add-le c h = omega arith
+        add_le : {a b : ℕ} (c : ℕ) → a ≤ b → a + c ≤ b + c
+        add_le c h = omega arith
 
         go : ((4 * N < mid * mid) × (rounded ≡ q)) ⊎ ((mid * mid < 4 * N) × (rounded ≡ suc q)) → (t + rounded * 2 ^ k) * (t + rounded * 2 ^ k) < 4 * N
         go (inl x) =
@@ -203,21 +203,21 @@ module _ (p N m i : ℕ) (P : 0 < p) (I : 0 < i) (is : N ≡ m * 2 ^ i) (small :
             (lt_of_lt_of_le (sq_lt (t + q * 2 ^ k) (q * 2 ^ k + q * 2 ^ k) (add (q * 2 ^ k) (subst (λ (c : ℕ). t < c * 2 ^ k) x.1 l))) (le_trans (le_of_eq (sq_dbl (q * 2 ^ k))) down_le))
         go (inr x) =
             subst (λ (c : ℕ). (t + c * 2 ^ k) * (t + c * 2 ^ k) < 4 * N) (sym x.1)
-            (lt_of_le_of_lt (sq_le (le_trans (add-le (suc q * 2 ^ k) (next_below t (placed t T) (subst (λ (c : ℕ). t < c * 2 ^ k) x.1 l))) (le_of_eq (both q (2 ^ k))))) x.0)
+            (lt_of_le_of_lt (sq_le (le_trans (add_le (suc q * 2 ^ k) (next_below t (placed t T) (subst (λ (c : ℕ). t < c * 2 ^ k) x.1 l))) (le_of_eq (both q (2 ^ k))))) x.0)
 
     pub under : rounded * 2 ^ k < t → 4 * N < (t + rounded * 2 ^ k) * (t + rounded * 2 ^ k)
     under l = go rounds
       where
-        add-le : {a b : ℕ} (c : ℕ) → a ≤ b → c + a ≤ b + c
-        add-le c h = omega arith
+        add_le : {a b : ℕ} (c : ℕ) → a ≤ b → c + a ≤ b + c
+        add_le c h = omega arith
 
-        add-self : {a b : ℕ} → a < b → a + a ≤ b + a
-        add-self h = omega arith
+        add_self : {a b : ℕ} → a < b → a + a ≤ b + a
+        add_self h = omega arith
 
         go : ((4 * N < mid * mid) × (rounded ≡ q)) ⊎ ((mid * mid < 4 * N) × (rounded ≡ suc q)) → 4 * N < (t + rounded * 2 ^ k) * (t + rounded * 2 ^ k)
         go (inl x) =
             subst (λ (c : ℕ). 4 * N < (t + c * 2 ^ k) * (t + c * 2 ^ k)) (sym x.1)
-            (lt_of_lt_of_le x.0 (sq_le (le_trans (le_of_eq (sym (both q (2 ^ k)))) (add-le (q * 2 ^ k) (next_above t (placed t T) (subst (λ (c : ℕ). c * 2 ^ k < t) x.1 l))))))
+            (lt_of_lt_of_le x.0 (sq_le (le_trans (le_of_eq (sym (both q (2 ^ k)))) (add_le (q * 2 ^ k) (next_above t (placed t T) (subst (λ (c : ℕ). c * 2 ^ k < t) x.1 l))))))
         go (inr x) =
             subst (λ (c : ℕ). 4 * N < (t + c * 2 ^ k) * (t + c * 2 ^ k)) (sym x.1)
-            (lt_of_lt_of_le up_lt (le_trans (le_of_eq (sym (sq_dbl (suc q * 2 ^ k)))) (sq_le (add-self (subst (λ (c : ℕ). c * 2 ^ k < t) x.1 l)))))
+            (lt_of_lt_of_le up_lt (le_trans (le_of_eq (sym (sq_dbl (suc q * 2 ^ k)))) (sq_le (add_self (subst (λ (c : ℕ). c * 2 ^ k < t) x.1 l)))))

@@ -1,5 +1,5 @@
 -- A whole number as a value of the format, and `round_away` by the bits of a value and of its magnitude. Assumes nothing.
-use Rattle.std.proofs.Common.{◌≡◌, ℕ, zero, suc, ◌+◌, ◌-◌, ◌*◌, ◌/◌, ◌%◌, ◌^◌, ◌<◌, ◌≤◌, Bool, true, false, cond, not, T, eqb, ltb, leb, ◌⊎◌, ℤ, pos, sym, refl, ap, ◌∙◌, subst, inl, inr, le_trans, le_of_eq, le-add_right, lt_of_le_of_lt, add_assoc, mul-le-mul_right, zero-lt-suc, add-mul, lt_of_mul-lt-mul_right, lt_of_not-le, zero-mul, mul-one, mul_right_comm, not-le_of_lt, arith, le→leb, lt→ltb, pow_pos}
+use Rattle.std.proofs.Common.{◌≡◌, ℕ, zero, suc, ◌+◌, ◌-◌, ◌*◌, ◌/◌, ◌%◌, ◌^◌, ◌<◌, ◌≤◌, Bool, true, false, cond, not, T, eqb, ltb, leb, ◌⊎◌, ℤ, pos, sym, refl, ap, ◌∙◌, subst, inl, inr, le_trans, le_of_eq, le-add_right, lt_of_le_of_lt, add_assoc, mul-le-mul_right, zero-lt-suc, add-mul, lt_of_mul_lt_mul_right, lt_of_not-le, zero-mul, mul-one, mul_right_comm, not-le_of_lt, arith, le→leb, lt→ltb, pow_pos}
 use Prim.Native.Nat.{compare}
 use native.Mathlib.Nat.{eq_of_mul-eq-mul_right}
 use lib.Ieee.{Float, nan, inf, fin, Format, prec, emax, low, up, down, size, nearest, odd, units, round, neg, ne, eq, of_int, fits, is_nan, hid, ones, top, of_fields, to_bits}
@@ -90,7 +90,7 @@ module _ (f : Format) (s : Bool) (m : ℕ) (e : ℤ) (held : T (fits f (fin fals
   k_ge : low f ≤ size n - prec f
   k_ge =
       enough (low f) (size n - prec f)
-      (lt_of_mul-lt-mul_right (hid f)
+      (lt_of_mul_lt_mul_right (hid f)
       (lt_of_le_of_lt large (lt_of_le_of_lt (le_of_eq (to_bits_of f y n value)) (sum ((size n - prec f) * hid f) (n / 2 ^ (size n - prec f)) (kept-lt (prec f) n) (add-mul (size n - prec f) 2 (hid f))))))
     where
       enough : (l k : ℕ) → l + 1 < k + 2 → l ≤ k
@@ -106,10 +106,10 @@ module _ (f : Format) (s : Bool) (m : ℕ) (e : ℤ) (held : T (fits f (fin fals
       longer z p e a b h = omega arith
 
   whole : (w : ℕ) × (n ≡ w * 2 ^ low f)
-  whole = go (spaced (prec f) n c.m c.j (low f) (pos-prec (prec f) (two f)) c.is c.m_lt)
+  whole = go (spaced (prec f) n c.m c.j (low f) (pos_prec (prec f) (two f)) c.is c.m_lt)
     where
-      pos-prec : (p : ℕ) → 2 ≤ p → 0 < p
-      pos-prec p h = omega arith
+      pos_prec : (p : ℕ) → 2 ≤ p → 0 < p
+      pos_prec p h = omega arith
 
       go : ((w : ℕ) × (n ≡ w * 2 ^ low f)) ⊎ (n < 2 ^ (prec f - 1 + low f)) → (w : ℕ) × (n ≡ w * 2 ^ low f)
       go (inl x) = x
@@ -184,9 +184,9 @@ module _ (f : Format) (x : Float) (held : T (fits f x)) (number : T (not (is_nan
       go (fin s (suc m) e) a b h = large_whole f s m e a h
 
   module _ (small : to_bits f (magnitude x) < (low f + 1) * hid f) where
-    pub round-plus : to_bits f x < top f → round f false (half_up (magnitude x)) 1 ≡ round_away f x
+    pub round_plus : to_bits f x < top f → round f false (half_up (magnitude x)) 1 ≡ round_away f x
     unfolding magnitude round_away is_nan fits
-    round-plus h = go x held number small h
+    round_plus h = go x held number small h
       where
         go : (x : Float) → T (fits f x) → T (not (is_nan x)) → to_bits f (magnitude x) < (low f + 1) * hid f → to_bits f x < top f → round f false (half_up (magnitude x)) 1 ≡ round_away f x
         go nan a b l h = absurd b
@@ -195,9 +195,9 @@ module _ (f : Format) (x : Float) (held : T (fits f x)) (number : T (not (is_nan
         go (fin false zero e) a b l h = ap (λ (d : ℤ). round f false (half_up (fin false 0 d)) 1) (sym (zero_exp f false e a))
         go (fin false (suc m) e) a b l h = refl
 
-    pub round-minus : top f ≤ to_bits f x → neg (round f false (half_up (magnitude x)) 1) ≡ round_away f x
+    pub round_minus : top f ≤ to_bits f x → neg (round f false (half_up (magnitude x)) 1) ≡ round_away f x
     unfolding magnitude round_away is_nan fits
-    round-minus h = go x held number small h
+    round_minus h = go x held number small h
       where
         go : (x : Float) → T (fits f x) → T (not (is_nan x)) → to_bits f (magnitude x) < (low f + 1) * hid f → top f ≤ to_bits f x → neg (round f false (half_up (magnitude x)) 1) ≡ round_away f x
         go nan a b l h = absurd b

@@ -1,6 +1,6 @@
 -- Zeros under f32's and f64's operations: what a sum, a difference, a product and a quotient with a zero come to, signs included.
 -- `Zero x`: x is +0 or -0. `Plus x`: x is not -0. Assumes nothing.
-use Rattle.std.proofs.Common.{◌≡◌, ℕ, zero, suc, ◌+◌, ◌-◌, ◌*◌, ◌/◌, ◌%◌, ◌^◌, ◌<◌, ◌≤◌, Bool, true, false, cond, not, ◌&&◌, T, eqb, ltb, leb, ℤ, pos, negsuc, sym, refl, ap, ◌∙◌, subst, subst₂, inl, inr, true≢false, suc-le-suc, le_trans, le_of_eq, lt_of_lt_of_le, add-zero, lt_irrefl, mul-le-mul_right, zero-lt-suc, mul_assoc, mul_comm, lt_of_mul-lt-mul_right, mul-lt-mul_of_pos_right, mul-pos, one-mul, mul-zero, le-div_iff_mul-le, zero-mul, mul-one, mul_right_comm, mul_left_comm, arith, eqb→eq, ltb→lt, lt→ltb, leb→le, pow_pos, pow-add}
+use Rattle.std.proofs.Common.{◌≡◌, ℕ, zero, suc, ◌+◌, ◌-◌, ◌*◌, ◌/◌, ◌%◌, ◌^◌, ◌<◌, ◌≤◌, Bool, true, false, cond, not, ◌&&◌, T, eqb, ltb, leb, ℤ, pos, negsuc, sym, refl, ap, ◌∙◌, subst, subst₂, inl, inr, true≢false, suc-le-suc, le_trans, le_of_eq, lt_of_lt_of_le, add-zero, lt_irrefl, mul-le-mul_right, zero-lt-suc, mul_assoc, mul_comm, lt_of_mul_lt_mul_right, mul-lt-mul_of_pos_right, mul-pos, one-mul, mul-zero, le-div_iff_mul-le, zero-mul, mul-one, mul_right_comm, mul_left_comm, arith, eqb→eq, ltb→lt, lt→ltb, leb→le, pow_pos, pow-add}
 use Prim.Native.Nat.{compare}
 use native.Mathlib.Nat.{eq_of_mul-eq-mul_right, pow-succ', div-div-eq-div-mul, sub-zero}
 use mathlib.Core.Bool.{beq, false≢true}
@@ -122,7 +122,7 @@ round_fit f s m e a c C t h =
     let u = m * 2 ^ j.0 in
     let uv : m * up e * 2 ^ low f ≡ u * down e = mul_assoc m (up e) (2 ^ low f) ∙ ap (λ (x : ℕ). m * x) j.1 ∙ sym (mul_assoc m (2 ^ j.0) (down e)) in
     let small : u < 2 ^ (low f + suc (emax f)) =
-    lt_of_mul-lt-mul_right (down e)
+    lt_of_mul_lt_mul_right (down e)
     (subst (λ (x : ℕ). x < 2 ^ (low f + suc (emax f)) * down e) uv
     (lt_of_lt_of_le (mul-lt-mul_of_pos_right n.under (pow_pos (low f)))
     (le_of_eq (simp (mul_assoc, mul_comm, mul_left_comm, pow-add))))) in
@@ -198,8 +198,8 @@ reached p n P N = elim (split 0 (size n)) [ inl h ↦ size_reaches n (size n - p
 kept_pos : (p n : ℕ) → 0 < p → 0 < n → 0 < n / 2 ^ (size n - p)
 kept_pos p n P N = (le-div_iff_mul-le (pow_pos (size n - p))).1 (le_trans (le_of_eq (one-mul (2 ^ (size n - p)))) (reached p n P N))
 
-round-plus : (f : Format) (s : Bool) (num den : ℕ) → 0 < den → (T s → den ≤ num * 2 ^ low f) → Plus (round f s num den)
-round-plus f s num den D h =
+round_plus : (f : Format) (s : Bool) (num den : ℕ) → 0 < den → (T s → den ≤ num * 2 ^ low f) → Plus (round f s num den)
+round_plus f s num den D h =
     let n = num * 2 ^ low f in
     let k = size (n / den) - prec f in
     let u = den * 2 ^ k in
@@ -217,7 +217,7 @@ above_part x y h = omega arith
 difference : (x y P Y X c : ℕ) → 0 < P → x * P ≡ X * c → y * P ≡ Y * c → y < x → c ≤ (x - y) * P
 difference x y P Y X c p h g l =
     gap (x - y) y P Y X c (ap (λ (z : ℕ). z * P) (above_part x y l) ∙ h) g
-    (lt_of_mul-lt-mul_right c (subst (λ (z : ℕ). z < X * c) g (subst (λ (z : ℕ). y * P < z) h (mul-lt-mul_of_pos_right l p))))
+    (lt_of_mul_lt_mul_right c (subst (λ (z : ℕ). z < X * c) g (subst (λ (z : ℕ). y * P < z) h (mul-lt-mul_of_pos_right l p))))
 
 -- and so is a sum, where the first is not 0
 together : (x y P X c : ℕ) → 0 < P → x * P ≡ X * c → 0 < x → c ≤ (x + y) * P
@@ -226,18 +226,18 @@ together x y P (suc X) c p h l = omega arith
 
 sum_plus : (f : Format) (s : Bool) (a : ℕ) (t : Bool) (b c A B : ℕ) → 0 < c → (T s → 0 < a) → a * 2 ^ low f ≡ A * c → b * 2 ^ low f ≡ B * c → Plus (sum f s a t b c)
 unfolding sum
-sum_plus f true a true b c A B C n h g = round-plus f true (a + b) c C (λ z. together a b (2 ^ low f) A c (pow_pos (low f)) h (n tt))
-sum_plus f false a false b c A B C n h g = round-plus f false (a + b) c C (λ z. absurd z)
+sum_plus f true a true b c A B C n h g = round_plus f true (a + b) c C (λ z. together a b (2 ^ low f) A c (pow_pos (low f)) h (n tt))
+sum_plus f false a false b c A B C n h g = round_plus f false (a + b) c C (λ z. absurd z)
 sum_plus f true a false b c A B C n h g = go (ltb a b) (ltb b a) (ltb→lt b a)
   where
     go : (x y : Bool) → (T y → b < a) → Plus (cond x (round f false (b - a) c) (round f y (a - b) c))
-    go true y l = round-plus f false (b - a) c C (λ z. absurd z)
-    go false y l = round-plus f y (a - b) c C (λ z. difference a b (2 ^ low f) B A c (pow_pos (low f)) h g (l z))
+    go true y l = round_plus f false (b - a) c C (λ z. absurd z)
+    go false y l = round_plus f y (a - b) c C (λ z. difference a b (2 ^ low f) B A c (pow_pos (low f)) h g (l z))
 sum_plus f false a true b c A B C n h g = go (ltb a b) (ltb→lt a b)
   where
     go : (x : Bool) → (T x → a < b) → Plus (cond x (round f true (b - a) c) (round f false (a - b) c))
-    go true l = round-plus f true (b - a) c C (λ z. difference b a (2 ^ low f) A B c (pow_pos (low f)) g h (l tt))
-    go false l = round-plus f false (a - b) c C (λ z. absurd z)
+    go true l = round_plus f true (b - a) c C (λ z. difference b a (2 ^ low f) A B c (pow_pos (low f)) g h (l tt))
+    go false l = round_plus f false (a - b) c C (λ z. absurd z)
 
 scaled_units : (x P u de dd : ℕ) → x * P ≡ u * de → x * dd * P ≡ u * (de * dd)
 scaled_units x P u de dd h = mul_right_comm x dd P ∙ ap (λ (z : ℕ). z * dd) h ∙ mul_assoc u de dd

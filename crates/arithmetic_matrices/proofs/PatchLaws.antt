@@ -48,12 +48,12 @@ module _ {A : Type 0} where
 
   module _ (d : A) (lo hi : ℕ) (g : ℕ → A) (l : List A) where
     -- a list is a patch of l where it is g within the range and l outside of it
-    pub patch-is : (x : List A) → length x ≡ length l
+    pub patch_is : (x : List A) → length x ≡ length l
         → ((q : ℕ) → lo ≤ q → q < hi → q < length l → get_or x q d ≡ g q)
         → ((q : ℕ) → q < lo → q < length l → get_or x q d ≡ get_or l q d)
         → ((q : ℕ) → lo ≤ q → hi ≤ q → q < length l → get_or x q d ≡ get_or l q d)
         → x ≡ patch lo hi g l
-    patch-is x e within below above =
+    patch_is x e within below above =
         ext_get_or d x (patch lo hi g l) (e ∙ sym (length-patch lo hi g l))
         (λ q h.
         let m : q < length l = omega arith in
@@ -65,13 +65,13 @@ module _ {A : Type 0} where
 
   module _ (d : A) (lo : ℕ) (g : ℕ → A) (l : List A) where
     -- an empty range changes nothing
-    pub patch-none : l ≡ patch lo lo g l
-    patch-none = patch-is d lo lo g l l refl (λ q a b h. absurd (omega arith)) (λ q a h. refl) (λ q a b h. refl)
+    pub patch_none : l ≡ patch lo lo g l
+    patch_none = patch_is d lo lo g l l refl (λ q a b h. absurd (omega arith)) (λ q a h. refl) (λ q a b h. refl)
 
     -- a store at the end of the range makes the range one longer
-    pub patch-more : (hi : ℕ) → lo ≤ hi → hi < length l → set (patch lo hi g l) hi (g hi) ≡ patch lo (hi + 1) g l
-    patch-more hi a b =
-        patch-is d lo (hi + 1) g l (set (patch lo hi g l) hi (g hi)) (length-set (patch lo hi g l) hi (g hi) ∙ length-patch lo hi g l)
+    pub patch_more : (hi : ℕ) → lo ≤ hi → hi < length l → set (patch lo hi g l) hi (g hi) ≡ patch lo (hi + 1) g l
+    patch_more hi a b =
+        patch_is d lo (hi + 1) g l (set (patch lo hi g l) hi (g hi)) (length-set (patch lo hi g l) hi (g hi) ∙ length-patch lo hi g l)
         (λ q u v h.
         ⊎_elim (λ w. get_or-set_other (patch lo hi g l) hi q (g hi) d (omega arith) ∙ patch_in lo hi g l q d u w h)
         (λ w.
@@ -82,9 +82,9 @@ module _ {A : Type 0} where
         (λ q u v h. get_or-set_other (patch lo hi g l) hi q (g hi) d (omega arith) ∙ patch_above lo hi g l q d u (omega arith) h)
 
     -- where g is l itself the range may be longer
-    pub patch-skip : (hi hi' : ℕ) → hi ≤ hi' → ((q : ℕ) → hi ≤ q → q < hi' → q < length l → g q ≡ get_or l q d) → patch lo hi g l ≡ patch lo hi' g l
-    patch-skip hi hi' a same =
-        patch-is d lo hi' g l (patch lo hi g l) (length-patch lo hi g l)
+    pub patch_skip : (hi hi' : ℕ) → hi ≤ hi' → ((q : ℕ) → hi ≤ q → q < hi' → q < length l → g q ≡ get_or l q d) → patch lo hi g l ≡ patch lo hi' g l
+    patch_skip hi hi' a same =
+        patch_is d lo hi' g l (patch lo hi g l) (length-patch lo hi g l)
         (λ q u v h.
         ⊎_elim (λ w. patch_in lo hi g l q d u w h)
         (λ w. patch_above lo hi g l q d u w h ∙ sym (same q w v h))
@@ -93,13 +93,13 @@ module _ {A : Type 0} where
         (λ q u v h. patch_above lo hi g l q d u (omega arith) h)
 
     -- a patch of a patch that begins where the first ends
-    pub patch-join : (mid hi : ℕ) (g' : ℕ → A) → lo ≤ mid → mid ≤ hi
+    pub patch_join : (mid hi : ℕ) (g' : ℕ → A) → lo ≤ mid → mid ≤ hi
         → ((q : ℕ) → mid ≤ q → q < hi → q < length l → g' q ≡ g q)
         → patch mid hi g' (patch lo mid g l) ≡ patch lo hi g l
-    patch-join mid hi g' a b same =
+    patch_join mid hi g' a b same =
         let k = patch lo mid g l in
         let e : length (patch lo mid g l) ≡ length l = length-patch lo mid g l in
-        patch-is d lo hi g l (patch mid hi g' (patch lo mid g l)) (length-patch mid hi g' (patch lo mid g l) ∙ e)
+        patch_is d lo hi g l (patch mid hi g' (patch lo mid g l)) (length-patch mid hi g' (patch lo mid g l) ∙ e)
         (λ q u v h.
         ⊎_elim (λ w. patch_below mid hi g' (patch lo mid g l) q d w (omega arith) ∙ patch_in lo mid g l q d u w h)
         (λ w. patch_in mid hi g' (patch lo mid g l) q d w v (omega arith) ∙ same q w v h)
@@ -123,7 +123,7 @@ module _ (n i : ℕ) (h : ℕ → Float) (a : List Float) where
 
   pub row_none : a ≡ row_to n i h a 0
   unfolding row_to
-  row_none = let e : i * n + 0 ≡ i * n = omega arith in rw e (patch-none nan (i * n) (λ q. h (q - i * n)) a)
+  row_none = let e : i * n + 0 ≡ i * n = omega arith in rw e (patch_none nan (i * n) (λ q. h (q - i * n)) a)
 
   pub row_more : (j : ℕ) → i * n + j < length a → set (row_to n i h a j) (i * n + j) (h j) ≡ row_to n i h a (j + 1)
   unfolding row_to
@@ -131,13 +131,13 @@ module _ (n i : ℕ) (h : ℕ → Float) (a : List Float) where
       let e : i * n + (j + 1) ≡ i * n + j + 1 = omega arith in
       let d : i * n + j - i * n ≡ j = omega arith in
       rw e (ap (λ q. set (patch (i * n) (i * n + j) (λ q. h (q - i * n)) a) (i * n + j) (h q)) (sym d)
-      ∙ patch-more nan (i * n) (λ q. h (q - i * n)) a (i * n + j) (omega arith) b)
+      ∙ patch_more nan (i * n) (λ q. h (q - i * n)) a (i * n + j) (omega arith) b)
 
   -- columns in which the row does not change
   pub row_skip : (j j' : ℕ) → j ≤ j' → ((c : ℕ) → j ≤ c → c < j' → h c ≡ at n a i c) → row_to n i h a j ≡ row_to n i h a j'
   unfolding row_to at
   row_skip j j' b same =
-      patch-skip nan (i * n) (λ q. h (q - i * n)) a (i * n + j) (i * n + j') (omega arith)
+      patch_skip nan (i * n) (λ q. h (q - i * n)) a (i * n + j) (i * n + j') (omega arith)
       (λ q u v w.
       let e : i * n + (q - i * n) ≡ q = omega arith in
       same (q - i * n) (omega arith) (omega arith) ∙ ap (λ k. get_or a k nan) e)
@@ -161,13 +161,13 @@ module _ (n : ℕ) (F : ℕ → ℕ → Float) (a : List Float) where
 
   pub rows_none : a ≡ rows_to n F a 0
   unfolding rows_to
-  rows_none = rw zero-mul (patch-none nan 0 (λ q. F (q / n) (q % n)) a)
+  rows_none = rw zero-mul (patch_none nan 0 (λ q. F (q / n) (q % n)) a)
 
   -- rows that do not change
   pub rows_skip : (i i' : ℕ) → i ≤ i' → ((r c : ℕ) → i ≤ r → r < i' → c < n → F r c ≡ at n a r c) → rows_to n F a i ≡ rows_to n F a i'
   unfolding rows_to at
   rows_skip i i' b same =
-      patch-skip nan 0 (λ q. F (q / n) (q % n)) a (i * n) (i' * n) (mul-le-mul_right n b)
+      patch_skip nan 0 (λ q. F (q / n) (q % n)) a (i * n) (i' * n) (mul-le-mul_right n b)
       (λ q u v w.
       let d : q % n < n = column_lt i' n q v in
       same (q / n) (q % n) ((le-div_iff_mul-le {k = n} {x = i} {y = q} (omega arith)).1 u) (row_lt i' n q v) d
@@ -179,7 +179,7 @@ module _ (n : ℕ) (F : ℕ → ℕ → Float) (a : List Float) where
   rows_more h i same =
       let e : (i + 1) * n ≡ i * n + n = omega arith in
       rw e
-      (patch-join nan 0 (λ q. F (q / n) (q % n)) a (i * n) (i * n + n) (λ q. h (q - i * n)) (omega arith) (omega arith)
+      (patch_join nan 0 (λ q. F (q / n) (q % n)) a (i * n) (i * n + n) (λ q. h (q - i * n)) (omega arith) (omega arith)
       (λ q u v w.
       let b : q - i * n < n = omega arith in
       let d : i * n + (q - i * n) ≡ q = omega arith in

@@ -86,11 +86,11 @@ pub member_here : (s : ℕ) (ss : List ℕ) → member (s ∷ ss) s ≡ true
 member_here s ss = rw (eq-eqb s s refl)
 
 pub member_next : (t : ℕ) (ss : List ℕ) (s : ℕ) → member ss s ≡ true → member (t ∷ ss) s ≡ true
-member_next t ss s e = rw e (or-true (eqb s t))
+member_next t ss s e = rw e (or_true (eqb s t))
   where
-    or-true : (b : Bool) → (b || true) ≡ true
-    or-true true = refl
-    or-true false = refl
+    or_true : (b : Bool) → (b || true) ≡ true
+    or_true true = refl
+    or_true false = refl
 
 pub only_refl : (S : ℕ → Bool) (w : List Float) → Only S w w
 only_refl S w = record { long = refl; kept = λ i h. refl }

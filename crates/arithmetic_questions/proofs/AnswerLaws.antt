@@ -175,22 +175,22 @@ module _ {A : Type 0} (p : Profile) (c : Call) (r : Result A) (q : Question) (h 
 
   module _ (x : Refusal) (e : q ≡ No x) where
     -- a call that a question refuses is refused by it, whatever its function would do
-    pub answer-no : (k : ℕ) × (i : ℕ) × (j : ℕ) × (numbered x ≡ refused k i j) × (answer p c r ≡ refused k i j) × (k ≤ 11)
+    pub answer_no : (k : ℕ) × (i : ℕ) × (j : ℕ) × (numbered x ≡ refused k i j) × (answer p c r ≡ refused k i j) × (k ≤ 11)
     unfolding answer ◌>>=◌
-    answer-no =
+    answer_no =
         let (k, i, j, n) = as_refused x in
         (k, i, j, n, rw (← h, e, n), subst Early (sym h ∙ ap found e ∙ n) (early p c))
 
     -- it reports that refusal
-    pub outcome-no : outcome (answer p c r) ≡ numbered x
+    pub outcome_no : outcome (answer p c r) ≡ numbered x
     unfolding outcome
-    outcome-no = let (k, i, j, n, a, l) = answer-no in ap outcome a ∙ sym n
+    outcome_no = let (k, i, j, n, a, l) = answer_no in ap outcome a ∙ sym n
 
     -- leaves every output as it was lent
-    pub exit-no : {B : Type 0} (read : A → B) (was : B) → exit read (answer p c r) was ≡ was
+    pub exit_no : {B : Type 0} (read : A → B) (was : B) → exit read (answer p c r) was ≡ was
     unfolding exit
-    exit-no read was = let (k, i, j, n, a, l) = answer-no in ap (λ (z : Result A). exit read z was) a
+    exit_no read was = let (k, i, j, n, a, l) = answer_no in ap (λ (z : Result A). exit read z was) a
 
     -- and the workspace
-    pub workspace-no : (w : List Float) → workspace (answer p c r) w ≡ w
-    workspace-no w = let (k, i, j, n, a, l) = answer-no in ap (λ (z : Result A). workspace z w) a ∙ early_workspace A k i j w l
+    pub workspace_no : (w : List Float) → workspace (answer p c r) w ≡ w
+    workspace_no w = let (k, i, j, n, a, l) = answer_no in ap (λ (z : Result A). workspace z w) a ∙ early_workspace A k i j w l

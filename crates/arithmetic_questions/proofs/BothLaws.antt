@@ -24,7 +24,7 @@ use Rattle.arithmetic_matrices.proofs.MatrixLaws.{square_le}
 use Rattle.arithmetic_matrices.proofs.Slots.{slot_store, slot_other, slots_apart, only_store, only_trans, only_more, cleared_only, length-store}
 use Rattle.arithmetic_matrices.proofs.States.{among, member_among}
 use Rattle.arithmetic_questions.proofs.QuestionLaws.{as_refused}
-use Rattle.arithmetic_questions.proofs.AnswerLaws.{answer_passed, outcome-no, exit-no, workspace-no}
+use Rattle.arithmetic_questions.proofs.AnswerLaws.{answer_passed, outcome_no, exit_no, workspace_no}
 use Rattle.arithmetic_questions.proofs.OutputLaws.{Late, late_where, kept_where, exit_done, exit_refused, exit_as}
 
 -- ---- a call on the way, by its outcome
@@ -69,10 +69,10 @@ module _ (p : Profile) (c : Call) (q : Question) (h : found q ≡ asked p c) (cl
   -- a question refuses: outputs and workspace are as they were lent
   pub two_refused : (r : Result Both) (x : Refusal) → q ≡ No x → reported o ≡ numbered x → TwoOutputsWith clears (answer p c r) o first first second second w w
   two_refused r x e k = record {
-    outcome = k ∙ sym (outcome-no p c r q h x e);
-    value = sym (exit-no p c r q h x e (λ (b : Both). b.value) first);
-    derivative = sym (exit-no p c r q h x e (λ (b : Both). b.derivative) second);
-    workspace = kept_where clears (answer p c r) w (sym (workspace-no p c r q h x e w));
+    outcome = k ∙ sym (outcome_no p c r q h x e);
+    value = sym (exit_no p c r q h x e (λ (b : Both). b.value) first);
+    derivative = sym (exit_no p c r q h x e (λ (b : Both). b.derivative) second);
+    workspace = kept_where clears (answer p c r) w (sym (workspace_no p c r q h x e w));
   }
 
   -- None does: the matrix a is copied to slot 0 and the direction d to slot t, slots 0 and 1 are replaced by what g gives for them, and delivered.

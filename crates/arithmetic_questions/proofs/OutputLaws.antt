@@ -24,7 +24,7 @@ use Rattle.arithmetic_matrices.proofs.MatrixLaws.{square_le}
 use Rattle.arithmetic_matrices.proofs.Slots.{slot_store, only_store, only_trans, only_more, cleared_only}
 use Rattle.arithmetic_matrices.proofs.States.{among, member_among}
 use Rattle.arithmetic_questions.proofs.QuestionLaws.{as_refused}
-use Rattle.arithmetic_questions.proofs.AnswerLaws.{answer_passed, outcome-no, exit-no, workspace-no}
+use Rattle.arithmetic_questions.proofs.AnswerLaws.{answer_passed, outcome_no, exit_no, workspace_no}
 
 -- ---- refusals met on the way: 12, 13, 14, 17
 
@@ -78,15 +78,15 @@ module _ (p : Profile) (c : Call) (q : Question) (h : found q ≡ asked p c) (o 
   -- a question refuses: the output is as it was lent
   pub output_refused : (r : Result (List Float)) (x : Refusal) → q ≡ No x → reported o ≡ numbered x → OneOutput (answer p c r) o before before
   output_refused r x e k = record {
-    outcome = k ∙ sym (outcome-no p c r q h x e);
-    output = sym (exit-no p c r q h x e (λ v. v) before);
+    outcome = k ∙ sym (outcome_no p c r q h x e);
+    output = sym (exit_no p c r q h x e (λ v. v) before);
   }
 
   -- none does: the output is the definition's
-  pub output-done :
+  pub output_done :
       (s : ℕ) (v after : List Float) → q ≡ Passed → reported o ≡ done s tt → after ≡ v → OneOutput (answer p c (done s v)) o before after
   unfolding outcome exit
-  output-done s v after e k w = record {
+  output_done s v after e k w = record {
     outcome = k ∙ sym (ap outcome (answer_passed p c (done s v) q h e));
     output = w ∙ sym (ap (λ (z : Result (List Float)). exit (λ v. v) z before) (answer_passed p c (done s v) q h e));
   }
@@ -106,9 +106,9 @@ module _ (p : Profile) (c : Call) (q : Question) (h : found q ≡ asked p c) (cl
   -- a question refuses: output and workspace are as they were lent
   pub one_refused : (r : Result (List Float)) (x : Refusal) → q ≡ No x → reported o ≡ numbered x → OneOutputWith clears (answer p c r) o before before w w
   one_refused r x e k = record {
-    outcome = k ∙ sym (outcome-no p c r q h x e);
-    output = sym (exit-no p c r q h x e (λ v. v) before);
-    workspace = kept_where clears (answer p c r) w (sym (workspace-no p c r q h x e w));
+    outcome = k ∙ sym (outcome_no p c r q h x e);
+    output = sym (exit_no p c r q h x e (λ v. v) before);
+    workspace = kept_where clears (answer p c r) w (sym (workspace_no p c r q h x e w));
   }
 
   -- none does: the matrix a is copied to slot 0, replaced by what g gives for it, and delivered

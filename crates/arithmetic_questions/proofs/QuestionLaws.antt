@@ -144,9 +144,9 @@ small_square rows columns h k =
     mul-le-mul {n₁ = rows} {m₁ = columns} {n₂ = 8} {m₂ = 8} l (omega arith)
 
 -- a direction of the matrix's order has as many
-pub small-direction :
+pub small_direction :
     (n rows columns : ℕ) → Yes (ask (eqb rows n && eqb columns n) 3 rows columns) → Yes (at_most 8 n) → (rows ≡ n) × (columns ≡ n) × (rows * columns ≤ 64)
-small-direction n rows columns h k =
+small_direction n rows columns h k =
     let b = and_true (eqb rows n) (eqb columns n) (ask_yes _ 3 rows columns h) in
     let e : rows ≡ n = eqb-true rows n b.0 in
     let d : columns ≡ n = eqb-true columns n b.1 in
@@ -156,14 +156,14 @@ small-direction n rows columns h k =
 -- ---- 6 and 7: the scan
 
 -- the first entry that is not finite, found by its index
-pub first_nonfinite-at :
+pub first_nonfinite_at :
     (q : ℕ) (l : List Float) (k : ℕ) → k < length l → ((i : ℕ) → i < k → finite (item l i) ≡ true) → finite (item l k) ≡ false
     → first_nonfinite q l ≡ some (q + k)
 unfolding first_nonfinite
-first_nonfinite-at q [] k h p e = absurd (omega arith)
-first_nonfinite-at q (x ∷ l) zero h p e = rw e (ap some (omega arith))
-first_nonfinite-at q (x ∷ l) (suc k) h p e =
-    rw (p 0 (omega arith)) (first_nonfinite-at (suc q) l k (omega arith) (λ i hi. p (suc i) (omega arith)) e ∙ ap some (omega arith))
+first_nonfinite_at q [] k h p e = absurd (omega arith)
+first_nonfinite_at q (x ∷ l) zero h p e = rw e (ap some (omega arith))
+first_nonfinite_at q (x ∷ l) (suc k) h p e =
+    rw (p 0 (omega arith)) (first_nonfinite_at (suc q) l k (omega arith) (λ i hi. p (suc i) (omega arith)) e ∙ ap some (omega arith))
 
 pub first_nonfinite_none : (q : ℕ) (l : List Float) → ((i : ℕ) → i < length l → finite (item l i) ≡ true) → first_nonfinite q l ≡ none
 unfolding first_nonfinite
@@ -171,12 +171,12 @@ first_nonfinite_none q [] p = refl
 first_nonfinite_none q (x ∷ l) p = rw (p 0 (omega arith)) (first_nonfinite_none (suc q) l (λ i hi. p (suc i) (omega arith)))
 
 module _ (columns : ℕ) (a : List Float) where
-  scanned-at :
+  scanned_at :
       (i j : ℕ) → j < columns → i * columns + j < length a → ((k : ℕ) → k < i * columns + j → finite (item a k) ≡ true)
       → finite (item a (i * columns + j)) ≡ false → (number : ℕ) → scanned number (At i j) ≡ all_finite number columns a
   unfolding all_finite placed
-  scanned-at i j hj h p e number =
-      rw (first_nonfinite-at 0 a (i * columns + j) h p e, zero-add, digits_div i {m = columns} {r = j} hj, digits_mod i {m = columns} {r = j} hj)
+  scanned_at i j hj h p e number =
+      rw (first_nonfinite_at 0 a (i * columns + j) h p e, zero-add, digits_div i {m = columns} {r = j} hj, digits_mod i {m = columns} {r = j} hj)
 
   scanned_none : ((k : ℕ) → k < length a → finite (item a k) ≡ true) → (number : ℕ) → scanned number AllFinite ≡ all_finite number columns a
   unfolding all_finite placed
@@ -218,7 +218,7 @@ module _ {a : List Float} {rows columns : ℕ} {answer : Scan} {i j : ℕ} (s : 
   }
 
   pub finite_at : i < rows → j < columns → finite (item a (i * columns + j)) ≡ false → (number : ℕ) → scanned number (At i j) ≡ all_finite number columns a
-  finite_at r h e = scanned-at columns a i j h (finite_inside r h) s.before e
+  finite_at r h e = scanned_at columns a i j h (finite_inside r h) s.before e
 
 -- no entry is found: each is finite
 found_none : (b : Bool) (o : Option ℕ) (q : ℕ) → cond b o (some q) ≡ none → T b × (o ≡ none)
@@ -244,23 +244,23 @@ finite_yes number columns a h = none_finite 0 a (placed_yes number columns (firs
 
 module _ (domain : Domain) (orders : Orders) (rows columns : ℕ) (a : List Float) where
   -- of one matrix and an output
-  pub shape-alone :
+  pub shape_alone :
       (power : Exponent) (p : Float) (out room : ℕ)
       → first_no (shape_questions (coded without_companion power domain orders) (powered rows columns a p (out ∷ []) room))
       ≡ first_no ((ask (ltb 0 rows) 1 0 0 ∷ ask (eqb rows columns) 2 rows columns ∷ at_most 8 rows ∷ [])
       ++ (exactly (rows * columns) (length a) ∷ exactly (rows * columns) out ∷ at_least8192 room ∷ []))
   unfolding first_no ◌>>=◌ shape_questions
-  shape-alone power p out room = refl
+  shape_alone power p out room = refl
 
   -- of a matrix, a direction and two outputs
-  pub shape-directed :
+  pub shape_directed :
       (rows' columns' : ℕ) (b : List Float) (first second room : ℕ)
       → first_no (shape_questions (coded direction without_exponent domain orders) (binary rows columns a rows' columns' b (first ∷ second ∷ []) room))
       ≡ first_no ((ask (ltb 0 rows) 1 0 0 ∷ ask (eqb rows columns) 2 rows columns ∷ ask (eqb rows' rows && eqb columns' rows) 3 rows' columns' ∷ at_most 8 rows ∷ [])
       ++ ((exactly (rows * columns) (length a) ∷ exactly (rows' * columns') (length b) ∷ [])
       ++ (exactly (rows * columns) first ∷ exactly (rows * columns) second ∷ at_least8192 room ∷ [])))
   unfolding first_no ◌>>=◌ shape_questions
-  shape-directed rows' columns' b first second room = refl
+  shape_directed rows' columns' b first second room = refl
 
 -- ---- all the questions
 
@@ -295,10 +295,10 @@ pub numbers_alone : (c : Call) → first_no (number_questions (base without_comp
 unfolding first_no ◌>>=◌ number_questions
 numbers_alone c = refl
 
-pub numbers-directed :
+pub numbers_directed :
     (c : Call) → first_no (number_questions (base direction) c) ≡ first_no (all_finite 6 c.columns c.matrix ∷ all_finite 7 c.companion_columns c.companion ∷ [])
 unfolding first_no ◌>>=◌ number_questions
-numbers-directed c = refl
+numbers_directed c = refl
 
 -- a length that was asked for passes a second time
 asked_twice : (a b d e : Found) (l : List Found) → first_no (a ∷ b ∷ passes ∷ d ∷ e ∷ passes ∷ passes ∷ e ∷ l) ≡ first_no (a ∷ b ∷ passes ∷ d ∷ e ∷ passes ∷ passes ∷ l)
@@ -310,11 +310,11 @@ asked_twice (done s t) (done s' t') (done s'' t'') (refused k x y) l = refl
 asked_twice (done s t) (done s' t') (done s'' t'') (done s''' t''') l = refl
 
 -- so the matrix's length can stand for that of an output
-pub own-length :
+pub own_length :
     (rows columns : ℕ) (a : List Float) (room : ℕ)
     → asked (base without_companion) (unary rows columns a (length a ∷ []) room) ≡ asked (base without_companion) (unary rows columns a [] room)
 unfolding asked shape_questions
-own-length rows columns a room =
+own_length rows columns a room =
     let c : Call = unary rows columns a [] room in
     asked_twice (ask (ltb 0 rows) 1 0 0) (ask (eqb rows columns) 2 rows columns) (at_most 8 rows) (exactly (rows * columns) (length a))
     (at_least8192 room ∷ number_questions (base without_companion) c)
@@ -330,19 +330,19 @@ regrouped (refused k x y ∷ l) a b c d e = refl
 regrouped (done s t ∷ l) a b c d e = regrouped l a b c d e
 
 module _ (beside : Companion) (power : Exponent) (domain : Domain) (orders : Orders) (c : Call) where
-  pub asked-rest :
+  pub asked_rest :
       asked (coded beside power domain orders) c ≡ first_no (questions (base beside) c ++ rest power domain orders c)
   unfolding asked shape_questions number_questions
-  asked-rest = regrouped (shape_questions (base beside) c) _ _ _ _ _
+  asked_rest = regrouped (shape_questions (base beside) c) _ _ _ _ _
 
   module _ (q : Question) (h : found q ≡ asked (base beside) c) where
     -- a refusal of 1 to 7 is the function's
-    pub rest-no : {x : Refusal} → q ≡ No x → found q ≡ asked (coded beside power domain orders) c
-    rest-no e = rw asked-rest (stops (rest power domain orders c) (told_asked (base beside) c q h) e).asks
+    pub rest_no : {x : Refusal} → q ≡ No x → found q ≡ asked (coded beside power domain orders) c
+    rest_no e = rw asked_rest (stops (rest power domain orders c) (told_asked (base beside) c q h) e).asks
 
     -- and after them the rest decides
-    pub rest-asked : (r : Question) → q ≡ Passed → found r ≡ first_no (rest power domain orders c) → found r ≡ asked (coded beside power domain orders) c
-    rest-asked r e k = rw asked-rest (goes_on (told_asked (base beside) c q h) e (told r k)).asks
+    pub rest_asked : (r : Question) → q ≡ Passed → found r ≡ first_no (rest power domain orders c) → found r ≡ asked (coded beside power domain orders) c
+    rest_asked r e k = rw asked_rest (goes_on (told_asked (base beside) c q h) e (told r k)).asks
 
 -- ---- what a call is known to be once its questions passed
 
@@ -413,7 +413,7 @@ module _ (power : Exponent) (domain : Domain) (orders : Orders) (c : Call) where
   pub directed_shape : Each Yes (shape_questions (coded direction power domain orders) c) → Directed c
   unfolding shape_questions
   directed_shape s =
-      let (height, width, small) = small-direction c.rows c.companion_rows c.companion_columns s.1.1.0 s.1.1.1.0 in
+      let (height, width, small) = small_direction c.rows c.companion_rows c.companion_columns s.1.1.0 s.1.1.1.0 in
       let lies : length c.companion ≡ c.companion_rows * c.companion_columns = exactly_yes _ _ s.1.1.1.1.1.0 in
       record { height = height; width = width; lies = lies; long = rw (height, width) at lies }
 
@@ -430,8 +430,8 @@ module _ (power : Exponent) (domain : Domain) (orders : Orders) (c : Call) where
         record { shape = shape; entries = entries_finite without_companion power domain orders c shape n }
 
     -- and of a matrix with a direction
-    pub accepted-directed : found q ≡ asked (coded direction power domain orders) c → q ≡ Passed → Accepted c × AcceptedDirection c
-    accepted-directed h e =
+    pub accepted_directed : found q ≡ asked (coded direction power domain orders) c → q ≡ Passed → Accepted c × AcceptedDirection c
+    accepted_directed h e =
         let (s, n) = passed direction power domain orders c q h e in
         let shape = beside_shape s in
         let fits = directed_shape s in (

@@ -21,7 +21,7 @@ use Rattle.arithmetic_matrices.proofs.Corner.{Corner}
 use Rattle.functions_definitions.specs.Exponential.{exponential, block, quarter}
 use Rattle.functions_definitions.specs.Frechet.{Proviso, FirstAlone}
 use Rattle.functions_definitions.proofs.HalvingLaws.{not_done}
-use Rattle.functions_definitions.proofs.PadeLaws.{exponential-corner, length-exponential}
+use Rattle.functions_definitions.proofs.PadeLaws.{exponential_corner, length-exponential}
 
 -- ---- the block
 double : (n : ℕ) → n ≤ n + n
@@ -49,7 +49,7 @@ pub first_output_alone : (f : Format) (n s : ℕ) (a e : List Float) → n + n �
 unfolding quarter
 first_output_alone f n s a e h v =
     let X = exponential f (n + n) s (block n a e) in
-    let c = exponential-corner f n (n + n) (double n) h s a (block n a e) (block_corner n a e) v.finite v.accepted in
+    let c = exponential_corner f n (n + n) (double n) h s a (block n a e) (block_corner n a e) v.finite v.accepted in
     sym (grid_is n n (λ i j. at (n + n) X i (0 + j)) (exponential f n s a) (length-exponential f n s a) (λ i j I J. sym (ap (at (n + n) X i) (zero-add j) ∙ c.same i j I J)))
 
 -- each format counts every order that a call takes

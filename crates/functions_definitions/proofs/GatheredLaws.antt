@@ -67,14 +67,14 @@ module _ {S : Type 0} (g : ℕ → S → Step S) (x : S) where
 
   -- still running after i passes, with the state y
   module _ (i : ℕ) (y : S) (e : after g x i ≡ running y) where
-    pub counted-stops : (k : ℕ) (z : S) → i < k → g i y ≡ stopped z → iterated (i + 1) true ≡ passes_report (after g x) k
+    pub counted_stops : (k : ℕ) (z : S) → i < k → g i y ≡ stopped z → iterated (i + 1) true ≡ passes_report (after g x) k
     unfolding passes
-    counted-stops k z l p =
+    counted_stops k z l p =
         let count = gathers_last ◌+◌ 0 (λ (j : ℕ). omega arith) (λ _. 1) g x i k y z e l p ∙ ap (λ (j : ℕ). j + 1) (all_made i y e) in
         λ j. iterated (sym count j) (by_test (sym (stops g x y i e z k l p) j))
 
-    pub counted-out : (k : ℕ) → i ≤ k → k ≤ i → iterated i false ≡ passes_report (after g x) k
-    counted-out k h l =
+    pub counted_out : (k : ℕ) → i ≤ k → k ≤ i → iterated i false ≡ passes_report (after g x) k
+    counted_out k h l =
         let same : i ≡ k = omega arith in
         let count = sym (all_made i y e) ∙ ap (passes (after g x)) same in
         λ j. iterated (count j) (by_test (sym (runs_out g x y i e k h l) j))
@@ -95,11 +95,11 @@ module _ {S : Type 0} (h : S → Report) (g : ℕ → S → Step S) (x : S) wher
     joined : ρ' ≡ beside (gives i) (h y)
     joined = B ∙ (λ j. beside (J j) (G j))
 
-    pub reporting-more : ρ' ≡ gives (i + 1)
-    reporting-more = joined ∙ sym (gathers beside nothing beside_nothing h g x i y s)
+    pub reporting_more : ρ' ≡ gives (i + 1)
+    reporting_more = joined ∙ sym (gathers beside nothing beside_nothing h g x i y s)
 
-    pub reporting-stops : (k : ℕ) (z : S) → i < k → g i y ≡ stopped z → ρ' ≡ gives k
-    reporting-stops k z l e = joined ∙ sym (gathers_last beside nothing beside_nothing h g x i k y z s l e)
+    pub reporting_stops : (k : ℕ) (z : S) → i < k → g i y ≡ stopped z → ρ' ≡ gives k
+    reporting_stops k z l e = joined ∙ sym (gathers_last beside nothing beside_nothing h g x i k y z s l e)
 
   pub reporting_out : (i k : ℕ) (ρ : Report) → ρ ≡ gives i → i ≤ k → k ≤ i → ρ ≡ gives k
   reporting_out i k ρ J h l = let same : i ≡ k = omega arith in J ∙ ap gives same

@@ -62,12 +62,12 @@ module _ (x : Float) (q : Question) (asked : found q ≡ norm_question x) where
     unfolding ◌>>=◌
     reports z e = ap (λ (t : ℕ). z >>= λ _. done t (tt {0})) count ∙ asked_report x passes z (sym (ap found passed) ∙ asked) (e ∙ limited ∙ ap halvings_question count)
 
-    pub halvings-refused : (y : Refusal) → r ≡ No y → numbered y ≡ halvings_report x
-    halvings-refused y e = sym (refusal_ends y _) ∙ reports (numbered y) (sym (ap found e))
+    pub halvings_refused : (y : Refusal) → r ≡ No y → numbered y ≡ halvings_report x
+    halvings_refused y e = sym (refusal_ends y _) ∙ reports (numbered y) (sym (ap found e))
 
-    pub halvings-passed : r ≡ Passed → done s tt ≡ halvings_report x
+    pub halvings_passed : r ≡ Passed → done s tt ≡ halvings_report x
     unfolding ◌>>=◌
-    halvings-passed e = reports passes (sym (ap found e))
+    halvings_passed e = reports passes (sym (ap found e))
 
 -- ---- whatever is done at the halvings that a norm sets
 

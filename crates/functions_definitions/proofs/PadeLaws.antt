@@ -21,7 +21,7 @@ use Rattle.lu_factoring.specs.Lu.{lu_factors, lu_pivots, lu_outcome}
 use Rattle.lu_factoring.specs.Solve.{stand_in, quotient, solution, solved_matrix}
 use Rattle.lu_factoring.specs.Finite.{FiniteFactors, FiniteSolution}
 use Rattle.lu_factoring.proofs.Tolerance.{tolerance_mono}
-use Rattle.lu_factoring.proofs.Factors.{outcome-corner}
+use Rattle.lu_factoring.proofs.Factors.{outcome_corner}
 use Rattle.lu_factoring.proofs.Solution.{Sound, Top, solution_top}
 use Rattle.functions_definitions.specs.Exponential.{power, combination, numerator, denominator, coefficient, flipped, pade, exponential, scaled, combination_to}
 use Rattle.functions_definitions.specs.Finite.{FinitePowers, FiniteCombination, FinitePade, FiniteRun}
@@ -83,22 +83,22 @@ module _ (f : Format) (n N : ℕ) (n≤N : n ≤ N) where
       }
 
   module _ (few : N ≤ 2 ^ prec f) where
-    pade-corner : (a A : List Float) → Corner n N a A → FinitePade f N A → lu_outcome f N (denominator f N A) ≡ Factored → Corner n N (pade f n a) (pade f N A)
+    pade_corner : (a A : List Float) → Corner n N a A → FinitePade f N A → lu_outcome f N (denominator f N A) ≡ Factored → Corner n N (pade f n a) (pade f N A)
     unfolding pade
-    pade-corner a A c ok acc =
+    pade_corner a A c ok acc =
         let cn : Corner n N (numerator f n a) (numerator f N A) = unfold numerator in combination_corner (coefficient f) a A c ok.powers ok.above in
         let cd : Corner n N (denominator f n a) (denominator f N A) = unfold denominator in combination_corner (flipped f) a A c ok.powers ok.under in
-        let acc' : lu_outcome f n (denominator f n a) ≡ Factored = outcome-corner f n N n≤N (denominator f n a) (denominator f N A) cd ok.factors (tolerance_mono f n N n≤N few) acc in
+        let acc' : lu_outcome f n (denominator f n a) ≡ Factored = outcome_corner f n N n≤N (denominator f n a) (denominator f N A) cd ok.factors (tolerance_mono f n N n≤N few) acc in
         let q = quotient f n (denominator f n a) (numerator f n a) in
         let Q = quotient f N (denominator f N A) (numerator f N A) in
         subst₂ (λ (o O : LuOutcome). Corner n N (stand_in o q (numerator f n a)) (stand_in O Q (numerator f N A))) (sym acc') (sym acc)
         (quotient_corner (denominator f n a) (denominator f N A) (numerator f n a) (numerator f N A) cd ok.factors cn (numerator_sound a) ok.columns)
 
-    pub exponential-corner : (s : ℕ) (a A : List Float) → Corner n N a A → FiniteRun f N s A → lu_outcome f N (denominator f N (scaled f N s A)) ≡ Factored → Corner n N (exponential f n s a) (exponential f N s A)
+    pub exponential_corner : (s : ℕ) (a A : List Float) → Corner n N a A → FiniteRun f N s A → lu_outcome f N (denominator f N (scaled f N s A)) ≡ Factored → Corner n N (exponential f n s a) (exponential f N s A)
     unfolding exponential
-    exponential-corner s a A c ok acc =
+    exponential_corner s a A c ok acc =
         let cs : Corner n N (scaled f n s a) (scaled f N s A) = unfold scaled in scale_corner f n N n≤N (inverse_power_of_two s) a A c ok.entries in
-        squared_corner f n N n≤N (pade f n (scaled f n s a)) (pade f N (scaled f N s A)) (pade-corner (scaled f n s a) (scaled f N s A) cs ok.approximant acc) s ok.squares
+        squared_corner f n N n≤N (pade f n (scaled f n s a)) (pade f N (scaled f N s A)) (pade_corner (scaled f n s a) (scaled f N s A) cs ok.approximant acc) s ok.squares
 
 -- ---- lengths
 

@@ -26,15 +26,15 @@ either_few false r t k h l = l
 module _ {S : Type 0} (states : ℕ → Step S) where
   -- each pass reports at most b steps
   module _ (h : S → Report) (b : ℕ) (few : (y : S) → (h y).steps ≤ b) where
-    during-few : (s : Step S) → (during nothing h s).steps ≤ b
-    during-few (running y) = few y
-    during-few (stopped y) = omega arith
-    during-few failed = omega arith
+    during_few : (s : Step S) → (during nothing h s).steps ≤ b
+    during_few (running y) = few y
+    during_few (stopped y) = omega arith
+    during_few failed = omega arith
 
-    gathered-few : (k : ℕ) → (gathered beside nothing h states k).steps ≤ b * k
+    gathered_few : (k : ℕ) → (gathered beside nothing h states k).steps ≤ b * k
     unfolding gathered
-    gathered-few zero = omega arith
-    gathered-few (suc k) = simp unary_clauses (omega (arith, gathered-few k, during-few (states k)))
+    gathered_few zero = omega arith
+    gathered_few (suc k) = simp unary_clauses (omega (arith, gathered_few k, during_few (states k)))
 
   one_few : (s : Step S) → during 0 (λ _. 1) s ≤ 1
   one_few (running y) = omega arith
@@ -49,7 +49,7 @@ module _ {S : Type 0} (states : ℕ → Step S) where
   -- whose passes report none of their own
   iteration_few : (h : S → Report) (k : ℕ) → ((y : S) → (h y).steps ≤ 0) → (iteration_report h states k).steps ≤ k
   unfolding iteration_report
-  iteration_few h k none = omega (arith, gathered-few h 0 none k, passes_few k)
+  iteration_few h k none = omega (arith, gathered_few h 0 none k, passes_few k)
 
 -- ---- each function
 
@@ -92,7 +92,7 @@ module _ (f : Format) (n : ℕ) where
   unfolding roots_report
   roots_few a =
       let roots : Rooted → Report = λ r. rooting_report f n r.work in
-      followed_few (ended (rooting f n a root_limit)) (gathered beside nothing roots (rooting f n a) root_limit) (λ r. iterated 0 (not (is_far f n r.work))) 10000 0 (gathered-few (rooting f n a) roots pass_limit (λ r. rooting_few r.work) root_limit) (λ r. omega arith)
+      followed_few (ended (rooting f n a root_limit)) (gathered beside nothing roots (rooting f n a) root_limit) (λ r. iterated 0 (not (is_far f n r.work))) 10000 0 (gathered_few (rooting f n a) roots pass_limit (λ r. rooting_few r.work) root_limit) (λ r. omega arith)
 
   pub log_few : (a : List Float) → (log_report f n a).steps ≤ 10059
   unfolding log_report

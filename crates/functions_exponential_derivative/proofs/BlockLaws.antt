@@ -115,10 +115,10 @@ module _ (n : ℕ) (w a e w1 w2 w3 w4 : List Float) (room : (n + n) * (n + n) �
   long2 = ap length e2 ∙ length-rows w1 (n + n) n (at n a) 0 0 0 one half n ∙ zeros
 
   long3 : length w3 ≡ length w
-  long3 = ap length e3 ∙ length-rows w2 (n + n) n (at n e) n 0 n two refl-le n ∙ long2
+  long3 = ap length e3 ∙ length-rows w2 (n + n) n (at n e) n 0 n two refl_le n ∙ long2
     where
-      refl-le : n + n ≤ n + n
-      refl-le = omega arith
+      refl_le : n + n ≤ n + n
+      refl_le = omega arith
 
   long4 : length w4 ≡ length w
   long4 = ap length e4 ∙ length-rows w3 (n + n) n (at n a) (n * (n + n) + n) n n refl (omega arith) n ∙ long3

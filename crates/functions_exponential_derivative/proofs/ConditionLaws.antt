@@ -32,7 +32,7 @@ use Rattle.arithmetic_matrices.proofs.PartLaws.{part_put}
 use Rattle.arithmetic_matrices.proofs.ProductLaws.{length-diagonal_m}
 use Rattle.arithmetic_matrices.proofs.Slots.{only_store, only_trans, cleared_only}
 use Rattle.arithmetic_questions.proofs.QuestionLaws.{as_refused}
-use Rattle.arithmetic_questions.proofs.AnswerLaws.{answer_passed, outcome-no, exit-no}
+use Rattle.arithmetic_questions.proofs.AnswerLaws.{answer_passed, outcome_no, exit_no}
 use Rattle.arithmetic_questions.proofs.OutputLaws.{Late, late_where}
 use Rattle.arithmetic_questions.proofs.ReportLaws.{report_as}
 use Rattle.functions_definitions.specs.Derivatives.{Condition, unit_direction, condition_of, conditioned, cond_exp_m, frechet_exp_m}
@@ -115,7 +115,7 @@ module _ (f : Format) (n : ℕ) (small : n ≤ 16) (a w w1 w2 e x x' d d' : List
 module _ (P : Profile) (c : Call) (q : Question) (h : found q ≡ asked P c) (x : Result Condition) where
   -- a question refuses
   pub condition_refused : (o : Outcome) (z : Condition) (y : Refusal) → q ≡ No y → reported o ≡ numbered y → z ≡ no_condition → Conditioned (answer P c x) o z
-  condition_refused o z y t k e = record { outcome = k ∙ sym (outcome-no P c x q h y t); condition = e ∙ sym (exit-no P c x q h y t (λ v. v) no_condition) }
+  condition_refused o z y t k e = record { outcome = k ∙ sym (outcome_no P c x q h y t); condition = e ∙ sym (exit_no P c x q h y t (λ v. v) no_condition) }
 
   -- none does
   pub condition_passed : (o : Outcome) (z : Condition) → q ≡ Passed → Conditioned x o z → Conditioned (answer P c x) o z

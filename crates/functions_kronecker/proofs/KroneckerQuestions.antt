@@ -75,11 +75,11 @@ module _ (m n : ℕ) (a : List Float) (p q : ℕ) (b : List Float) (out : ℕ) w
       }
 
   module _ (r : Question) (e : r ≡ Passed) where
-    pub kron-fitting : found r ≡ asked of_kron call → Fitting m n a p q b out
-    kron-fitting h = fitting (all_yes (told r (h ∙ asked_kron)) e)
+    pub kron_fitting : found r ≡ asked of_kron call → Fitting m n a p q b out
+    kron_fitting h = fitting (all_yes (told r (h ∙ asked_kron)) e)
 
     -- both matrices are square
-    pub kron-sum-fitting : found r ≡ asked of_kron_sum call → Fitting m m a p p b out
-    kron-sum-fitting h =
+    pub kron_sum_fitting : found r ≡ asked of_kron_sum call → Fitting m m a p p b out
+    kron_sum_fitting h =
         let s = all_yes (told r (h ∙ asked_kron_sum)) e in
         rw (← eqb-true m n (ask_yes _ 2 m n s.0), ← eqb-true p q (ask_yes _ 3 p q s.1.0)) at (fitting s.1.1)

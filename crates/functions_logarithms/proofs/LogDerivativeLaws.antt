@@ -53,9 +53,9 @@ module _ (f : Format) (n : ℕ) (w₀ : List Float) (r : Room n w₀) where
         let s4 = step_call used s3 R.only (member_among (member moved) used refl) in
         (held_at 0 n s3 refl ∙ ap (λ (c : Float). add_multiple_m f n c (slot n w₀ 4) (slot n w₀ 5)) eh, held_at 6 n s4 refl, s4.only)
 
-    pub second-done : (s : ℕ) (w5 : List Float) → o ≡ Done s → QuotientPlaced f n w4 w5 → ReplacedBoth moved n (second_logarithm f n (slot n w₀ 5) (slot n w₀ 4) (slot n w₀ 0)) (Done 0) w₀ w5
+    pub second_done : (s : ℕ) (w5 : List Float) → o ≡ Done s → QuotientPlaced f n w4 w5 → ReplacedBoth moved n (second_logarithm f n (slot n w₀ 5) (slot n w₀ 4) (slot n w₀ 0)) (Done 0) w₀ w5
     unfolding second_logarithm ◌>>=◌ outcome exit
-    second-done s w5 eo P =
+    second_done s w5 eo P =
         let x : logarithm f n (add_multiple_m f n (log_step f) (slot n w₀ 4) (slot n w₀ 5)) ≡ done s (slot n w4 0) =
         ap (logarithm f n) (sym shifted.0) ∙ call_done (logarithm f n (slot n w3 0)) o (slot n w4 0) s R.outcome R.result eo in
         rw x
@@ -67,16 +67,16 @@ module _ (f : Format) (n : ℕ) (w₀ : List Float) (r : Room n w₀) where
         })
 
     -- what it reports is the logarithm's
-    pub second-reported : (s : ℕ) (ρ : Report) (w5 : List Float) → o ≡ Done s → QuotientPlaced f n w4 w5 → ρ ≡ report_at (logarithm f n (slot n w3 0)) (log_report f n (slot n w3 0))
+    pub second_reported : (s : ℕ) (ρ : Report) (w5 : List Float) → o ≡ Done s → QuotientPlaced f n w4 w5 → ρ ≡ report_at (logarithm f n (slot n w3 0)) (log_report f n (slot n w3 0))
         → ρ ≡ report_at (second_logarithm f n (slot n w₀ 5) (slot n w₀ 4) (slot n w₀ 0)) (log_report f n (add_multiple_m f n (log_step f) (slot n w₀ 4) (slot n w₀ 5)))
-    second-reported s ρ w5 eo P e =
+    second_reported s ρ w5 eo P e =
         report_of_lem (logarithm f n (slot n w3 0)) (log_report f n (slot n w3 0)) ρ o s eo R.outcome e
         ∙ ap (log_report f n) shifted.0
-        ∙ report_done (second_logarithm f n (slot n w₀ 5) (slot n w₀ 4) (slot n w₀ 0)) (log_report f n (add_multiple_m f n (log_step f) (slot n w₀ 4) (slot n w₀ 5))) 0 (second-done s w5 eo P).outcome
+        ∙ report_done (second_logarithm f n (slot n w₀ 5) (slot n w₀ 4) (slot n w₀ 0)) (log_report f n (add_multiple_m f n (log_step f) (slot n w₀ 4) (slot n w₀ 5))) 0 (second_done s w5 eo P).outcome
 
-    pub second-refused : (y : Refusal) (q : Outcome) → o ≡ Refused y → reported q ≡ numbered y → ReplacedBoth moved n (second_logarithm f n (slot n w₀ 5) (slot n w₀ 4) (slot n w₀ 0)) q w₀ w4
+    pub second_refused : (y : Refusal) (q : Outcome) → o ≡ Refused y → reported q ≡ numbered y → ReplacedBoth moved n (second_logarithm f n (slot n w₀ 5) (slot n w₀ 4) (slot n w₀ 0)) q w₀ w4
     unfolding second_logarithm
-    second-refused y q eo h =
+    second_refused y q eo h =
         both_refused (logarithm f n (add_multiple_m f n (log_step f) (slot n w₀ 4) (slot n w₀ 5))) _ moved n o q y w₀ w4 (R.outcome ∙ ap (λ (a : List Float). outcome (logarithm f n a)) shifted.0) eo h shifted.2
 
   -- ---- both
@@ -88,10 +88,10 @@ module _ (f : Format) (n : ℕ) (w₀ : List Float) (r : Room n w₀) where
         let s2 = step_call used s1 R.only (member_among (member moved) used refl) in
         (held_at 0 n s1 refl, held_at 4 n s2 refl, held_at 5 n s2 refl, s2.only)
 
-    pub frechet-follows : (s : ℕ) (p : Outcome) (w3 : List Float) → o ≡ Done s → ReplacedBoth moved n (second_logarithm f n (slot n w2 5) (slot n w2 4) (slot n w2 0)) p w2 w3
+    pub frechet_follows : (s : ℕ) (p : Outcome) (w3 : List Float) → o ≡ Done s → ReplacedBoth moved n (second_logarithm f n (slot n w2 5) (slot n w2 4) (slot n w2 0)) p w2 w3
         → ReplacedBoth moved n (frechet_log_m f n (slot n w₀ 0) (slot n w₀ 4)) p w₀ w3
     unfolding frechet_log_m second_logarithm
-    frechet-follows s p w3 eo S =
+    frechet_follows s p w3 eo S =
         let x : logarithm f n (slot n w₀ 0) ≡ done s (slot n w2 0) = ap (logarithm f n) (sym first.0) ∙ call_done (logarithm f n (slot n w1 0)) o (slot n w2 0) s R.outcome R.result eo in
         let S' : ReplacedBoth moved n (second_logarithm f n (slot n w₀ 0) (slot n w₀ 4) (slot n w2 0)) p w2 w3 = rw (first.1, first.2) at S in
         both_follows (logarithm f n (slot n w₀ 0)) (second_logarithm f n (slot n w₀ 0) (slot n w₀ 4)) (slot n w2 0) s n moved p w₀ w2 w3 x first.3 S'
@@ -106,9 +106,9 @@ module _ (f : Format) (n : ℕ) (w₀ : List Float) (r : Room n w₀) where
         let x = second_logarithm f n (slot n w2 5) (slot n w2 4) (slot n w2 0) in
         let a : ρ₁ ≡ log_report f n (slot n w₀ 0) = report_of_lem (logarithm f n (slot n w1 0)) (log_report f n (slot n w1 0)) ρ₁ o s eo R.outcome e₁ ∙ ap (log_report f n) first.0 in
         let b : ρ₂ ≡ report_at x (log_report f n (add_multiple_m f n (log_step f) (slot n w₀ 4) (slot n w₀ 0))) = e₂ ∙ (λ i. report_at x (log_report f n (add_multiple_m f n (log_step f) (first.1 i) (first.2 i)))) in
-        report_joined (frechet_log_m f n (slot n w₀ 0) (slot n w₀ 4)) x (log_report f n (slot n w₀ 0)) (log_report f n (add_multiple_m f n (log_step f) (slot n w₀ 4) (slot n w₀ 0))) ρ₁ ρ₂ ρ ρ' p S.outcome (frechet-follows s p w3 eo S).outcome a b e e'
+        report_joined (frechet_log_m f n (slot n w₀ 0) (slot n w₀ 4)) x (log_report f n (slot n w₀ 0)) (log_report f n (add_multiple_m f n (log_step f) (slot n w₀ 4) (slot n w₀ 0))) ρ₁ ρ₂ ρ ρ' p S.outcome (frechet_follows s p w3 eo S).outcome a b e e'
 
-    pub frechet-refused : (y : Refusal) (q : Outcome) → o ≡ Refused y → reported q ≡ numbered y → ReplacedBoth moved n (frechet_log_m f n (slot n w₀ 0) (slot n w₀ 4)) q w₀ w2
+    pub frechet_refused : (y : Refusal) (q : Outcome) → o ≡ Refused y → reported q ≡ numbered y → ReplacedBoth moved n (frechet_log_m f n (slot n w₀ 0) (slot n w₀ 4)) q w₀ w2
     unfolding frechet_log_m
-    frechet-refused y q eo h =
+    frechet_refused y q eo h =
         both_refused (logarithm f n (slot n w₀ 0)) _ moved n o q y w₀ w2 (R.outcome ∙ ap (λ (a : List Float). outcome (logarithm f n a)) first.0) eo h first.3

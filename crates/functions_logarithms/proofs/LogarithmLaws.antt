@@ -36,7 +36,7 @@ use Rattle.functions_logarithms.specs.declared.logarithm.Roots.{Roots}
 use Rattle.functions_logarithms.specs.declared.logarithm.TakenRoots.{TakenRoots}
 use Rattle.functions_logarithms.specs.declared.logarithm.Roots.TheVariants.{Taken, Refused}
 use Rattle.functions_definitions.proofs.IterateLaws.{goes_on, stops, fails, runs_out}
-use Rattle.functions_definitions.proofs.GatheredLaws.{reporting-more, reporting-stops, reporting_out}
+use Rattle.functions_definitions.proofs.GatheredLaws.{reporting_more, reporting_stops, reporting_out}
 use Rattle.functions_roots.proofs.PassLaws.{step_tested, answers_ended, fails_ended, failed_reports}
 
 -- the slots that the logarithm changes, and those of the series
@@ -71,29 +71,29 @@ module _ (f : Format) (n : ℕ) (w₀ : List Float) (r : Room n w₀) where
 
   module _ (w1 : List Float) (p : Passed) (far : is_far f n (slot n w₀ 0) ≡ true) (N : ReportedNewton f n p w₀ w1) where
     -- the step is what the root gives
-    rooted-as : (k : ℕ) → rooted k (ended (as_step p.pass (slot n w1 1))) ≡ rooting_step f n (rooted_as (slot n w₀ 0) k)
+    rooted_as_lem : (k : ℕ) → rooted k (ended (as_step p.pass (slot n w1 1))) ≡ rooting_step f n (rooted_as (slot n w₀ 0) k)
     unfolding rooting_step newton_root
-    rooted-as k =
+    rooted_as_lem k =
         ap (λ (z : Step (List Float)). rooted k (ended z)) N.root.step
         ∙ ap (λ (b : Bool). cond b (rooted k (newton_root f n (slot n w₀ 0))) (stopped (rooted_as (slot n w₀ 0) k))) (sym far)
 
     wide : Only (member used) w₀ w1
     wide = only_more (member_among (member used) summing refl) N.root.only
 
-    pub far-failed : (ρ : Report) → answered p.pass ≡ false → ρ ≡ nothing → RootingPass f n (record { pass = Failed; report = ρ }) w₀ w1
-    far-failed ρ e en = record {
-      step = λ k. ap (rooted k) (fails_ended p.pass (slot n w1 1) e) ∙ rooted-as k;
+    pub far_failed : (ρ : Report) → answered p.pass ≡ false → ρ ≡ nothing → RootingPass f n (record { pass = Failed; report = ρ }) w₀ w1
+    far_failed ρ e en = record {
+      step = λ k. ap (rooted k) (fails_ended p.pass (slot n w1 1) e) ∙ rooted_as_lem k;
       reports = failed_reports en;
       near = λ q. absurd (subst IsStopped (sym q) tt);
       only = wide;
     }
 
-    pub far-rooted : (w2 : List Float) → answered p.pass ≡ true → w2 ≡ store w1 0 (slot n w1 1) → RootingPass f n (record { pass = Running; report = p.report }) w₀ w2
-    far-rooted w2 e e2 =
+    pub far_rooted : (w2 : List Float) → answered p.pass ≡ true → w2 ≡ store w1 0 (slot n w1 1) → RootingPass f n (record { pass = Running; report = p.report }) w₀ w2
+    far_rooted w2 e e2 =
         let s1 = step_call summing (start (member used) n r) N.root.only (member_among (member used) summing refl) in
         let s2 = step_copy_in n r.order 0 (slot n w1 1) s1 e2 (length-slot n w1 1) refl refl in
         record {
-          step = λ k. ap (λ (x : List Float). running (rooted_as x (suc k))) (held_at 0 n s2 refl) ∙ ap (rooted k) (answers_ended p.pass (slot n w1 1) e) ∙ rooted-as k;
+          step = λ k. ap (λ (x : List Float). running (rooted_as x (suc k))) (held_at 0 n s2 refl) ∙ ap (rooted k) (answers_ended p.pass (slot n w1 1) e) ∙ rooted_as_lem k;
           reports = record { few = N.reports.few; report = λ _. N.reports.report e ∙ reported_as true far };
           near = λ q. absurd (subst IsStopped (sym q) tt);
           only = s2.only;
@@ -139,24 +139,24 @@ module _ {f : Format} {n : ℕ} {w₀ w : List Float} {ρ : Report} {k : ℕ} (H
     changed : Only (member used) w₀ w'
     changed = only_trans H.only P.only
 
-    pub rooting-more : p.pass ≡ Running → Rooting f n w₀ w' ρ' (k + 1)
+    pub rooting_more : p.pass ≡ Running → Rooting f n w₀ w' ρ' (k + 1)
     unfolding rooting
-    rooting-more e = record {
+    rooting_more e = record {
       within = omega arith;
       state =
           goes_on (λ _. rooting_step f n) (rooted_as (slot n w₀ 0) 0) (rooted_as (slot n w 0) k) k H.state (rooted_as (slot n w' 0) (suc k)) (told Running e)
           ∙ ap (λ (m : ℕ). running (rooted_as (slot n w' 0) m)) (sym (add-one k));
       few = omega (arith, same_steps B, H.few, P.reports.few);
-      report = reporting-more (report_of f n) (λ _. rooting_step f n) (rooted_as (slot n w₀ 0) 0) k (rooted_as (slot n w 0) k) H.state ρ p.report ρ' H.report (P.reports.report (ap answered e)) B;
+      report = reporting_more (report_of f n) (λ _. rooting_step f n) (rooted_as (slot n w₀ 0) 0) k (rooted_as (slot n w 0) k) H.state ρ p.report ρ' H.report (P.reports.report (ap answered e)) B;
       only = changed;
     }
 
-    pub rooting-stops : p.pass ≡ Stopped → RootsTaken f n (record { roots = Taken k; report = ρ' }) w₀ w'
+    pub rooting_stops : p.pass ≡ Stopped → RootsTaken f n (record { roots = Taken k; report = ρ' }) w₀ w'
     unfolding rooting
-    rooting-stops e =
+    rooting_stops e =
         let a = slot n w₀ 0 in
         let q = sym (ap ended (stops (λ _. rooting_step f n) (rooted_as a 0) (rooted_as (slot n w 0) k) k H.state (rooted_as (slot n w' 0) k) root_limit h (told Stopped e))) in
-        let all = reporting-stops (report_of f n) (λ _. rooting_step f n) (rooted_as a 0) k (rooted_as (slot n w 0) k) H.state ρ p.report ρ' H.report (P.reports.report (ap answered e)) B root_limit (rooted_as (slot n w' 0) k) h (told Stopped e) in
+        let all = reporting_stops (report_of f n) (λ _. rooting_step f n) (rooted_as a 0) k (rooted_as (slot n w 0) k) H.state ρ p.report ρ' H.report (P.reports.report (ap answered e)) B root_limit (rooted_as (slot n w' 0) k) h (told Stopped e) in
         record {
           taken = q;
           few = omega arith;
@@ -164,9 +164,9 @@ module _ {f : Format} {n : ℕ} {w₀ w : List Float} {ρ : Report} {k : ℕ} (H
           only = changed;
         }
 
-    pub rooting-fails : p.pass ≡ Failed → RootsTaken f n (record { roots = Refused; report = ρ' }) w₀ w'
+    pub rooting_fails : p.pass ≡ Failed → RootsTaken f n (record { roots = Refused; report = ρ' }) w₀ w'
     unfolding rooting
-    rooting-fails e = record {
+    rooting_fails e = record {
       taken = sym (ap ended (fails (λ _. rooting_step f n) (rooted_as (slot n w₀ 0) 0) (rooted_as (slot n w 0) k) k H.state root_limit h (told Failed e)));
       few = omega arith;
       reports = λ j t. absurd (subst IsTaken (sym t) tt);
@@ -259,23 +259,23 @@ module _ (f : Format) (n : ℕ) (w₀ : List Float) (r : Room n w₀) where
     left : (k : ℕ) → t.roots ≡ Taken k → done 0 (rooted_as (slot n w1 0) k) ≡ ended (rooting f n (slot n w₀ 0) root_limit)
     left k e = ap (λ (z : Roots). as_taken z (slot n w1 0)) (sym e) ∙ R.taken
 
-    pub logarithm-done : (k : ℕ) (w2 : List Float) (ρ : Report) → t.roots ≡ Taken k → LogarithmNear f n k ρ w1 w2 → Replaced used n (logarithm f n (slot n w₀ 0)) (outcomes.Done 0) w₀ w2
+    pub logarithm_done : (k : ℕ) (w2 : List Float) (ρ : Report) → t.roots ≡ Taken k → LogarithmNear f n k ρ w1 w2 → Replaced used n (logarithm f n (slot n w₀ 0)) (outcomes.Done 0) w₀ w2
     unfolding logarithm ◌>>=◌ outcome exit
-    logarithm-done k w2 ρ e L =
+    logarithm_done k w2 ρ e L =
         let q = left k e in
         let x : done 0 (slot n w2 0) ≡ logarithm f n (slot n w₀ 0) =
         L.result ∙ ap (λ (z : Result Rooted). z >>= λ v. near_logarithm f n v.roots v.work) q in
         record { outcome = ap outcome x; result = ap (λ (z : Result (List Float)). exit (λ v. v) z (slot n w2 0)) x; only = only_trans R.only L.only }
 
     -- the roots, and the series
-    pub logarithm-reported : (k : ℕ) (w2 : List Float) (ρ ρ' : Report) → t.roots ≡ Taken k → LogarithmNear f n k ρ w1 w2 → ρ' ≡ beside t.report ρ → ρ' ≡ log_report f n (slot n w₀ 0)
+    pub logarithm_reported : (k : ℕ) (w2 : List Float) (ρ ρ' : Report) → t.roots ≡ Taken k → LogarithmNear f n k ρ w1 w2 → ρ' ≡ beside t.report ρ → ρ' ≡ log_report f n (slot n w₀ 0)
     unfolding log_report followed exit
-    logarithm-reported k w2 ρ ρ' e L B =
+    logarithm_reported k w2 ρ ρ' e L B =
         B ∙ (λ i. beside (R.reports k e i) (L.report i)) ∙ ap (λ (z : Result Rooted). followed z (roots_report f n (slot n w₀ 0)) (λ r. series_report f n (minus_identity_m f n r.work))) (left k e)
 
-    pub logarithm-refused : (o : Outcome) → t.roots ≡ Refused → reported o ≡ numbered NotConverged → Replaced used n (logarithm f n (slot n w₀ 0)) o w₀ w1
+    pub logarithm_refused : (o : Outcome) → t.roots ≡ Refused → reported o ≡ numbered NotConverged → Replaced used n (logarithm f n (slot n w₀ 0)) o w₀ w1
     unfolding logarithm ◌>>=◌ outcome exit
-    logarithm-refused o e h =
+    logarithm_refused o e h =
         let q : refused 13 0 0 ≡ ended (rooting f n (slot n w₀ 0) root_limit) = ap (λ (z : Roots). as_taken z (slot n w1 0)) (sym e) ∙ R.taken in
         let x : refused 13 0 0 ≡ logarithm f n (slot n w₀ 0) =
         ap (λ (z : Result Rooted). z >>= λ v. near_logarithm f n v.roots v.work) q in

@@ -65,10 +65,10 @@ module _ (f : Format) (n : ℕ) (w₀ : List Float) (r : Room n w₀) where
         (held_at 2 n s2 refl, held_at 1 n s3 refl, Q.result ∙ (λ i. division f n (held_at 2 n s2 refl i) (held_at 3 n s2 refl i)), s3.only)
 
     -- v is the smallest pivot
-    pub newton-passed : (w4 : List Float) (p : Pass) (v : Float) (ρ : Report) → o ≡ Factored → NewtonMean f n p w3 w4 → v ≡ smallest_pivot f n (slot n w2 2) → ρ ≡ factored v
+    pub newton_passed : (w4 : List Float) (p : Pass) (v : Float) (ρ : Report) → o ≡ Factored → NewtonMean f n p w3 w4 → v ≡ smallest_pivot f n (slot n w2 2) → ρ ≡ factored v
         → ReportedPass (newton_step f n (slot n w₀ 0)) (lu_report f n) (root n) used (record { pass = p; report = ρ }) w₀ w4
     unfolding newton_step lu_report
-    newton-passed w4 p v ρ eo M ev e =
+    newton_passed w4 p v ρ eo M ev e =
         let q : some (slot n w3 3) ≡ division f n (slot n w₀ 1) (slot n w₀ 0) = ap (λ (z : LuOutcome). where_factored z (slot n w3 3)) (sym eo) ∙ solved.2 in
         record {
           passed = record {
@@ -78,9 +78,9 @@ module _ (f : Format) (n : ℕ) (w₀ : List Float) (r : Room n w₀) where
           reports = record { few = omega (arith, same_steps e); report = λ _. e ∙ ap factored (ev ∙ ap (smallest_pivot f n) solved.0) };
         }
 
-    pub newton-failed : (k : ℕ) (ρ : Report) → o ≡ Singular k → ρ ≡ nothing → ReportedPass (newton_step f n (slot n w₀ 0)) (lu_report f n) (root n) used (record { pass = Failed; report = ρ }) w₀ w3
+    pub newton_failed : (k : ℕ) (ρ : Report) → o ≡ Singular k → ρ ≡ nothing → ReportedPass (newton_step f n (slot n w₀ 0)) (lu_report f n) (root n) used (record { pass = Failed; report = ρ }) w₀ w3
     unfolding newton_step newton_next
-    newton-failed k ρ eo e =
+    newton_failed k ρ eo e =
         let q : none ≡ division f n (slot n w₀ 1) (slot n w₀ 0) = ap (λ (z : LuOutcome). where_factored z (slot n w3 3)) (sym eo) ∙ solved.2 in
         record { passed = record { step = ap (newton_next f n (slot n w₀ 1)) q; only = solved.3 }; reports = failed_reports e }
 

@@ -93,29 +93,29 @@ module _ (f : Format) (n : ℕ) (w₀ : List Float) (r : Room n w₀) where
 
   module _ (e i rest : ℕ) (w w1 : List Float) (B : BitsMultiplied f n e i w₀ w) (left : rest ≡ e / 2 ^ i) (M : BitMultiplied f n rest w w1) where
     -- the product after one bit more
-    product-more : slot n w1 1 ≡ bit_power f n (slot n w₀ 0) e (suc i)
+    product_more : slot n w1 1 ≡ bit_power f n (slot n w₀ 0) e (suc i)
     unfolding bit_power
-    product-more = M.product ∙ (λ j. cond (eqb (left j % 2) 1) (mul_m f n (B.product j) (B.power j)) (B.product j))
+    product_more = M.product ∙ (λ j. cond (eqb (left j % 2) 1) (mul_m f n (B.product j) (B.power j)) (B.product j))
 
-    bits-more : (w2 : List Float) → Squared f n w1 0 2 1 w2 → BitsMultiplied f n e (suc i) w₀ w2
+    bits_more : (w2 : List Float) → Squared f n w1 0 2 1 w2 → BitsMultiplied f n e (suc i) w₀ w2
     unfolding squared
-    bits-more w2 S =
+    bits_more w2 S =
         let all = member (0 ∷ 1 ∷ 2 ∷ []) in
         let r0 : Room n w = room_kept r B.only.long in
         let r1 : Room n w1 = room_kept r0 M.only.long in
         let p1 : slot n w1 0 ≡ squared f n i (slot n w₀ 0) = slot_kept n (1 ∷ 2 ∷ []) r0 M.only 0 refl ∙ B.power in
         record {
           power = S.power ∙ (λ j. mul_m f n (p1 j) (p1 j));
-          product = slot_kept n (0 ∷ 2 ∷ []) r1 S.only 1 refl ∙ product-more;
+          product = slot_kept n (0 ∷ 2 ∷ []) r1 S.only 1 refl ∙ product_more;
           only = only_trans B.only (only_trans (only_more (member_among all (1 ∷ 2 ∷ []) refl) M.only) (only_more (member_among all (0 ∷ 2 ∷ []) refl) S.only));
         }
 
     -- the last bit
-    bits-all : e < 2 ^ 64 → rest ≤ 1 → AllMultiplied f n e w₀ w1
-    bits-all fits last =
+    bits_all : e < 2 ^ 64 → rest ≤ 1 → AllMultiplied f n e w₀ w1
+    bits_all fits last =
         let none : e / 2 ^ suc i ≡ 0 = sym (rest_more e i) ∙ ap (λ (d : ℕ). d / 2) (sym left) ∙ div-eq_of_lt {n = rest} {m = 2} (omega arith) in
         record {
-          product = product-more ∙ same_bits f n (slot n w₀ 0) e (suc i) 64 none (div-eq_of_lt fits);
+          product = product_more ∙ same_bits f n (slot n w₀ 0) e (suc i) 64 none (div-eq_of_lt fits);
           only = only_trans B.only (only_more (member_among (member (0 ∷ 1 ∷ 2 ∷ [])) (1 ∷ 2 ∷ []) refl) M.only);
         }
 
@@ -123,15 +123,15 @@ module _ (f : Format) (n : ℕ) (w₀ : List Float) (r : Room n w₀) where
   bits_start e h = record { bits = 0; left = sym (div-one e); multiplied = bits_none e h }
 
   module _ {e rest : ℕ} {w w1 : List Float} (s : BitsDone f n e w₀ w rest) (M : BitMultiplied f n rest w w1) where
-    pub bits-turn : {w2 : List Float} → Squared f n w1 0 2 1 w2 → BitsDone f n e w₀ w2 (rest / 2)
-    bits-turn {w2} S = record {
+    pub bits_turn : {w2 : List Float} → Squared f n w1 0 2 1 w2 → BitsDone f n e w₀ w2 (rest / 2)
+    bits_turn {w2} S = record {
       bits = suc s.bits;
       left = ap (λ (d : ℕ). d / 2) s.left ∙ rest_more e s.bits;
-      multiplied = bits-more e s.bits rest w w1 s.multiplied s.left M w2 S;
+      multiplied = bits_more e s.bits rest w w1 s.multiplied s.left M w2 S;
     }
 
-    pub bits-end : e < 2 ^ 64 → rest ≤ 1 → AllMultiplied f n e w₀ w1
-    bits-end fits last = bits-all e s.bits rest w w1 s.multiplied s.left M fits last
+    pub bits_end : e < 2 ^ 64 → rest ≤ 1 → AllMultiplied f n e w₀ w1
+    bits_end fits last = bits_all e s.bits rest w w1 s.multiplied s.left M fits last
 
   pub identity_first : (w1 : List Float) → w1 ≡ store w₀ 1 (identity_m n) → slot n w1 1 ≡ identity_m n
   identity_first w1 e1 = held_at 1 n (step_identity n r.order 1 (start (member (1 ∷ [])) n r) e1 refl refl) refl
@@ -156,14 +156,14 @@ module _ (f : Format) (n : ℕ) (w₀ : List Float) (r : Room n w₀) where
     changed : Only (member (0 ∷ 1 ∷ [])) w₀ w1
     changed = only_trans beside.only (subst (λ (w : List Float). Only (member (0 ∷ 1 ∷ [])) v w) (sym e1) (divided_only f n 0 1 v room (omega arith) o))
 
-    pub inverse-none : (k : ℕ) (o' : Outcome) → o ≡ Singular k → reported o' ≡ numbered NotConverged → Replaced (0 ∷ 1 ∷ []) n (or_not_converged (inverse f n (slot n w₀ 0))) o' w₀ w1
+    pub inverse_none : (k : ℕ) (o' : Outcome) → o ≡ Singular k → reported o' ≡ numbered NotConverged → Replaced (0 ∷ 1 ∷ []) n (or_not_converged (inverse f n (slot n w₀ 0))) o' w₀ w1
     unfolding inverse division outcome exit
-    inverse-none k o' s h = subst (λ (l : LuOutcome). Replaced (0 ∷ 1 ∷ []) n (or_not_converged (where_factored l (quotient f n (slot n w₀ 0) (identity_m n)))) o' w₀ w1) (sym s ∙ eo)
+    inverse_none k o' s h = subst (λ (l : LuOutcome). Replaced (0 ∷ 1 ∷ []) n (or_not_converged (where_factored l (quotient f n (slot n w₀ 0) (identity_m n)))) o' w₀ w1) (sym s ∙ eo)
         (record { outcome = h; result = refl; only = changed })
 
-    pub inverse-done : (w2 : List Float) → o ≡ Factored → w2 ≡ store w1 0 (slot n w1 1) → Replaced (0 ∷ 1 ∷ []) n (or_not_converged (inverse f n (slot n w₀ 0))) (Done 0) w₀ w2
+    pub inverse_done : (w2 : List Float) → o ≡ Factored → w2 ≡ store w1 0 (slot n w1 1) → Replaced (0 ∷ 1 ∷ []) n (or_not_converged (inverse f n (slot n w₀ 0))) (Done 0) w₀ w2
     unfolding inverse division outcome exit
-    inverse-done w2 s e2 =
+    inverse_done w2 s e2 =
         let S2 = step_copy n r.order 1 0 (start (member (0 ∷ 1 ∷ [])) n (room_kept r changed.long)) e2 refl refl refl in
         let q : slot n w1 1 ≡ quotient f n (slot n w₀ 0) (identity_m n) =
         ap (λ (w : List Float). slot n w 1) (e1 ∙ ap (divided f n n 0 256 v) s) ∙ divided_slot f n 0 1 v room (omega arith) Factored refl ∙ (λ i. quotient f n (held_at 0 n beside refl i) (held_at 1 n beside refl i)) in

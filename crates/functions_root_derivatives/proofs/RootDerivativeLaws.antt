@@ -141,9 +141,9 @@ module _ (f : Format) (n : ℕ) (second : List Float → List Float) (w₀ : Lis
         let s3 = step_call system_slots s2 Q.only (member_among (member derived_slots) system_slots refl) in
         (ap (λ (z : Option (List Float)). or_not_converged z >>= λ x. done 0 (transpose_m n x)) (Q.result ∙ (λ i. column_division f (n * n) (held_at 8 (n * n) s2 refl i) (held_at 7 n s2 refl i))), s3.only, held_at 8 (n * n) s2 refl)
 
-    pub sylvester-solved : (w4 : List Float) → o ≡ Factored → w4 ≡ store w3 1 (transpose_m n (slot n w3 7)) → Derived n (sylvester f n (slot n w₀ 0) (second (slot n w₀ 0)) (slot n w₀ 6)) true w₀ w4
+    pub sylvester_solved : (w4 : List Float) → o ≡ Factored → w4 ≡ store w3 1 (transpose_m n (slot n w3 7)) → Derived n (sylvester f n (slot n w₀ 0) (second (slot n w₀ 0)) (slot n w₀ 6)) true w₀ w4
     unfolding answered ◌>>=◌
-    sylvester-solved w4 eo e4 =
+    sylvester_solved w4 eo e4 =
         let r3 : Room n w3 = record { order = r.order; space = rw solution.1.long r.space } in
         let s4 = step_transpose n r.order 7 1 (start (member derived_slots) n r3) e4 refl refl refl in
         record {
@@ -152,13 +152,13 @@ module _ (f : Format) (n : ℕ) (second : List Float → List Float) (w₀ : Lis
         }
 
     -- one factoring, of the system's matrix
-    pub sylvester-reported : (v : Float) (ρ : Report) → v ≡ smallest_pivot f (n * n) (slot (n * n) w2 8) → ρ ≡ factored v → ρ ≡ lu_report f (n * n) (sylvester_matrix f n (slot n w₀ 0) (second (slot n w₀ 0)))
+    pub sylvester_reported : (v : Float) (ρ : Report) → v ≡ smallest_pivot f (n * n) (slot (n * n) w2 8) → ρ ≡ factored v → ρ ≡ lu_report f (n * n) (sylvester_matrix f n (slot n w₀ 0) (second (slot n w₀ 0)))
     unfolding lu_report
-    sylvester-reported v ρ ev e = e ∙ ap factored (ev ∙ ap (smallest_pivot f (n * n)) solution.2)
+    sylvester_reported v ρ ev e = e ∙ ap factored (ev ∙ ap (smallest_pivot f (n * n)) solution.2)
 
-    pub sylvester-refused : (k : ℕ) → o ≡ Singular k → Derived n (sylvester f n (slot n w₀ 0) (second (slot n w₀ 0)) (slot n w₀ 6)) false w₀ w3
+    pub sylvester_refused : (k : ℕ) → o ≡ Singular k → Derived n (sylvester f n (slot n w₀ 0) (second (slot n w₀ 0)) (slot n w₀ 6)) false w₀ w3
     unfolding answered ◌>>=◌
-    sylvester-refused k eo = record { result = ap (λ (z : LuOutcome). answered (where_factored z (slot n w3 7))) (sym eo) ∙ solution.0; only = solution.1 }
+    sylvester_refused k eo = record { result = ap (λ (z : LuOutcome). answered (where_factored z (slot n w3 7))) (sym eo) ∙ solution.0; only = solution.1 }
 
   -- at order 1, and above
 
@@ -219,27 +219,27 @@ module _ (f : Format) (n : ℕ) (second : List Float → List Float) (w₀ : Lis
     narrow : Only (member both_slots) w1 w2
     narrow = only_more (member_among (member both_slots) derived_slots refl) D.only
 
-    after-root : (p : Outcome) → ReplacedBoth both_slots n (follows (slot n w1 0)) p w1 w2 → ReplacedBoth both_slots n (root_with_derivative f n second (slot n w₀ 0) (slot n w₀ 6)) p w₀ w2
+    after_root : (p : Outcome) → ReplacedBoth both_slots n (follows (slot n w1 0)) p w1 w2 → ReplacedBoth both_slots n (root_with_derivative f n second (slot n w₀ 0) (slot n w₀ 6)) p w₀ w2
     unfolding root_with_derivative follows
-    after-root p S = both_follows (square_root f n (slot n w₀ 0)) follows (slot n w1 0) s n both_slots p w₀ w1 w2 (call_done (square_root f n (slot n w₀ 0)) o (slot n w1 0) s R.outcome R.result eo) wide S
+    after_root p S = both_follows (square_root f n (slot n w₀ 0)) follows (slot n w1 0) s n both_slots p w₀ w1 w2 (call_done (square_root f n (slot n w₀ 0)) o (slot n w1 0) s R.outcome R.result eo) wide S
 
-    pub derivative-done : b ≡ true → ReplacedBoth both_slots n (root_with_derivative f n second (slot n w₀ 0) (slot n w₀ 6)) (Done 0) w₀ w2
+    pub derivative_done : b ≡ true → ReplacedBoth both_slots n (root_with_derivative f n second (slot n w₀ 0) (slot n w₀ 6)) (Done 0) w₀ w2
     unfolding follows ◌>>=◌ outcome exit
-    derivative-done e =
+    derivative_done e =
         let x : root_derivative f n (slot n w1 0) (second (slot n w1 0)) (slot n w₀ 6) ≡ done 0 (slot n w2 1) = sym (ap (λ (z : Bool). where_accepted z (slot n w2 1)) (sym e) ∙ made) in
-        after-root (Done 0) (rw x (record { outcome = refl; value = kept; derivative = refl; only = narrow }))
+        after_root (Done 0) (rw x (record { outcome = refl; value = kept; derivative = refl; only = narrow }))
 
-    pub derivative-refused : (p : Outcome) → b ≡ false → reported p ≡ refused 13 0 0 → ReplacedBoth both_slots n (root_with_derivative f n second (slot n w₀ 0) (slot n w₀ 6)) p w₀ w2
+    pub derivative_refused : (p : Outcome) → b ≡ false → reported p ≡ refused 13 0 0 → ReplacedBoth both_slots n (root_with_derivative f n second (slot n w₀ 0) (slot n w₀ 6)) p w₀ w2
     unfolding follows ◌>>=◌ outcome exit
-    derivative-refused p e ep =
+    derivative_refused p e ep =
         let x : root_derivative f n (slot n w1 0) (second (slot n w1 0)) (slot n w₀ 6) ≡ refused 13 0 0 = sym (ap (λ (z : Bool). where_accepted z (slot n w2 1)) (sym e) ∙ made) in
-        after-root p (rw x (record { outcome = ep; value = refl; derivative = refl; only = narrow }))
+        after_root p (rw x (record { outcome = ep; value = refl; derivative = refl; only = narrow }))
 
     -- the root reports ρ₁ and the derivative ρ₂
-    pub derivative-reported : (ρ₁ ρ₂ ρ : Report) → ρ₁ ≡ report_at (square_root f n (slot n w₀ 0)) (root_report f n (slot n w₀ 0)) → ρ₂ ≡ root_derivative_report f n (slot n w1 0) (second (slot n w1 0)) → ρ ≡ beside ρ₁ ρ₂
+    pub derivative_reported : (ρ₁ ρ₂ ρ : Report) → ρ₁ ≡ report_at (square_root f n (slot n w₀ 0)) (root_report f n (slot n w₀ 0)) → ρ₂ ≡ root_derivative_report f n (slot n w1 0) (second (slot n w1 0)) → ρ ≡ beside ρ₁ ρ₂
         → ρ ≡ root_with_derivative_report f n second (slot n w₀ 0)
     unfolding root_with_derivative_report
-    derivative-reported ρ₁ ρ₂ ρ e₁ e₂ e =
+    derivative_reported ρ₁ ρ₂ ρ e₁ e₂ e =
         let a = report_of_lem (square_root f n (slot n w₀ 0)) (root_report f n (slot n w₀ 0)) ρ₁ o s eo R.outcome e₁ in
         e ∙ (λ i. beside (a i) (e₂ i))
         ∙ sym (followed_as (square_root f n (slot n w₀ 0)) (root_report f n (slot n w₀ 0)) (λ v. root_derivative_report f n v (second v)) s (slot n w1 0) (sym (ap reported eo) ∙ R.outcome) R.result)

@@ -33,7 +33,7 @@ use Rattle.functions_roots.specs.declared.pass.Pass.{Pass}
 use Rattle.functions_roots.specs.declared.pass.Passed.{Passed}
 use Rattle.functions_roots.specs.declared.pass.Pass.TheVariants.{Running, Stopped, Failed}
 use Rattle.functions_definitions.proofs.IterateLaws.{goes_on, stops, fails, runs_out}
-use Rattle.functions_definitions.proofs.GatheredLaws.{gives, counted-stops, counted-out, reporting_none, reporting-more, reporting-stops, reporting_out, iteration_reports}
+use Rattle.functions_definitions.proofs.GatheredLaws.{gives, counted_stops, counted_out, reporting_none, reporting_more, reporting_stops, reporting_out, iteration_reports}
 
 -- a pass that its test ends, as the definitions say it
 pub step_tested : {S : Type 0} (b : Bool) (x : S) → as_step (tested b) x ≡ verdict b x
@@ -82,24 +82,24 @@ module _ {S : Type 0} {g : ℕ → S → Step S} {count : ℕ} {read : List Floa
     all : Only (member ss) w₀ w'
     all = only_trans H.only P.only
 
-    pub passing-more : p ≡ Running → Passing g count read ss w₀ w' (i + 1)
-    passing-more e = record { within = omega arith; state = goes_on g (read w₀) (read w) i H.state (read w') (told Running e); only = all }
+    pub passing_more : p ≡ Running → Passing g count read ss w₀ w' (i + 1)
+    passing_more e = record { within = omega arith; state = goes_on g (read w₀) (read w) i H.state (read w') (told Running e); only = all }
 
-    pub passing-stops : p ≡ Stopped → Passes g count read ss Stopped w₀ w'
-    passing-stops e = record { step = sym (stops g (read w₀) (read w) i H.state (read w') count h (told Stopped e)); only = all }
+    pub passing_stops : p ≡ Stopped → Passes g count read ss Stopped w₀ w'
+    passing_stops e = record { step = sym (stops g (read w₀) (read w) i H.state (read w') count h (told Stopped e)); only = all }
 
     -- the pass that stops counts
-    pub passing-counted : p ≡ Stopped → iterated (i + 1) true ≡ passes_report (after g (read w₀)) count
-    passing-counted e = counted-stops g (read w₀) i (read w) H.state count (read w') h (told Stopped e)
+    pub passing_counted : p ≡ Stopped → iterated (i + 1) true ≡ passes_report (after g (read w₀)) count
+    passing_counted e = counted_stops g (read w₀) i (read w) H.state count (read w') h (told Stopped e)
 
-    passing-fails : p ≡ Failed → Passes g count read ss Failed w₀ w'
-    passing-fails e = record { step = sym (fails g (read w₀) (read w) i H.state count h (told Failed e)); only = all }
+    passing_fails : p ≡ Failed → Passes g count read ss Failed w₀ w'
+    passing_fails e = record { step = sym (fails g (read w₀) (read w) i H.state count h (told Failed e)); only = all }
 
   pub passing_out : count ≤ i → Passes g count read ss Running w₀ w
   passing_out l = record { step = sym (runs_out g (read w₀) (read w) i H.state count H.within l); only = H.only }
 
   pub passing_counted_out : count ≤ i → iterated i false ≡ passes_report (after g (read w₀)) count
-  passing_counted_out l = counted-out g (read w₀) i (read w) H.state count H.within l
+  passing_counted_out l = counted_out g (read w₀) i (read w) H.state count H.within l
 
 -- ---- the loop over passes that report
 
@@ -126,30 +126,30 @@ reporting_start {g = g} {h = h} {read = read} {w₀ = w₀} {ρ = ρ} e = record
 module _ {S : Type 0} {g : ℕ → S → Step S} {h : S → Report} {count : ℕ} {read : List Float → S} {ss : List ℕ} {w₀ w : List Float} {ρ : Report} {i : ℕ} (H : Reporting g h count read ss w₀ w ρ i) where
   module _ {w' : List Float} {r : Passed} {ρ' : Report} (l : i < count) (P : ReportedPass (g i) h read ss r w w') (B : ρ' ≡ beside ρ r.report) where
     -- none of the passes so far brings steps
-    few-so-far : ρ'.steps ≤ 0
-    few-so-far = omega (arith, same_steps B, H.few, P.reports.few)
+    few_so_far : ρ'.steps ≤ 0
+    few_so_far = omega (arith, same_steps B, H.few, P.reports.few)
 
-    pub reporting-turn : r.pass ≡ Running → Reporting g h count read ss w₀ w' ρ' (i + 1)
-    reporting-turn e = record {
-      passing = passing-more H.passing l P.passed e;
-      few = few-so-far;
-      report = reporting-more h g (read w₀) i (read w) H.passing.state ρ r.report ρ' H.report (P.reports.report (ap answered e)) B;
+    pub reporting_turn : r.pass ≡ Running → Reporting g h count read ss w₀ w' ρ' (i + 1)
+    reporting_turn e = record {
+      passing = passing_more H.passing l P.passed e;
+      few = few_so_far;
+      report = reporting_more h g (read w₀) i (read w) H.passing.state ρ r.report ρ' H.report (P.reports.report (ap answered e)) B;
     }
 
-    pub reporting-stopped : {v ρ'' : Report} → v ≡ iterated (i + 1) true → ρ'' ≡ beside ρ' v → r.pass ≡ Stopped → ReportedPasses g h count read ss (record { pass = Stopped; report = ρ'' }) w₀ w'
-    reporting-stopped {v = v} {ρ'' = ρ''} I B' e =
+    pub reporting_stopped : {v ρ'' : Report} → v ≡ iterated (i + 1) true → ρ'' ≡ beside ρ' v → r.pass ≡ Stopped → ReportedPasses g h count read ss (record { pass = Stopped; report = ρ'' }) w₀ w'
+    reporting_stopped {v = v} {ρ'' = ρ''} I B' e =
         let last : g i (read w) ≡ stopped (read w') = sym P.passed.step ∙ ap (λ (z : Pass). as_step z (read w')) e in
-        let all = reporting-stops h g (read w₀) i (read w) H.passing.state ρ r.report ρ' H.report (P.reports.report (ap answered e)) B count (read w') l last in
+        let all = reporting_stops h g (read w₀) i (read w) H.passing.state ρ r.report ρ' H.report (P.reports.report (ap answered e)) B count (read w') l last in
         record {
-          passed = passing-stops H.passing l P.passed e;
+          passed = passing_stops H.passing l P.passed e;
           reports = record {
-            few = omega (arith, same_steps B', few-so-far, same_steps I);
-            report = λ _. iteration_reports h g (read w₀) count ρ' v ρ'' all (I ∙ passing-counted H.passing l P.passed e) B';
+            few = omega (arith, same_steps B', few_so_far, same_steps I);
+            report = λ _. iteration_reports h g (read w₀) count ρ' v ρ'' all (I ∙ passing_counted H.passing l P.passed e) B';
           };
         }
 
-    pub reporting-failed : r.pass ≡ Failed → ReportedPasses g h count read ss (record { pass = Failed; report = ρ' }) w₀ w'
-    reporting-failed e = record { passed = passing-fails H.passing l P.passed e; reports = record { few = omega (arith, few-so-far); report = silent refl } }
+    pub reporting_failed : r.pass ≡ Failed → ReportedPasses g h count read ss (record { pass = Failed; report = ρ' }) w₀ w'
+    reporting_failed e = record { passed = passing_fails H.passing l P.passed e; reports = record { few = omega (arith, few_so_far); report = silent refl } }
 
   pub reporting_end : {v ρ'' : Report} → v ≡ iterated i false → ρ'' ≡ beside ρ v → count ≤ i → ReportedPasses g h count read ss (record { pass = Running; report = ρ'' }) w₀ w
   reporting_end {v = v} {ρ'' = ρ''} I B' l =

@@ -63,64 +63,64 @@ module _ (f : Format) (n : ℕ) (w₀ : List Float) (r : Room n w₀) where
 
   -- 1 / y, and the means; or y is refused
   module _ (w1 w2 w3 : List Float) (o : LuOutcome) (e1 : w1 ≡ store w₀ 2 (slot n w₀ 0)) (e2 : w2 ≡ store w1 4 (identity_m n)) (Q : SlotQuotient f n 4 o w2 w3) where
-    second-solved : (pair_in n w3 ≡ pair_in n w₀) × (slot n w3 3 ≡ slot n w₀ 3) × (where_factored o (slot n w3 4) ≡ inverse f n (slot n w₀ 0)) × Only (member later) w₀ w3 × (slot n w2 2 ≡ slot n w₀ 0)
+    second_solved : (pair_in n w3 ≡ pair_in n w₀) × (slot n w3 3 ≡ slot n w₀ 3) × (where_factored o (slot n w3 4) ≡ inverse f n (slot n w₀ 0)) × Only (member later) w₀ w3 × (slot n w2 2 ≡ slot n w₀ 0)
     unfolding inverse
-    second-solved =
+    second_solved =
         let s1 = step_copy n r.order 0 2 (start (member later) n r) e1 refl refl refl in
         let s2 = step_identity n r.order 4 s1 e2 refl refl in
         let s3 = step_call (2 ∷ 4 ∷ []) s2 Q.only (member_among (member later) (2 ∷ 4 ∷ []) refl) in
         (λ i. record { y = held_at 0 n s3 refl i; z = held_at 1 n s3 refl i }, held_at 3 n s3 refl, Q.result ∙ (λ i. division f n (held_at 2 n s2 refl i) (held_at 4 n s2 refl i)), s3.only, held_at 2 n s2 refl)
 
-    pub second-passed : (w4 : List Float) (p : Pass) → o ≡ Factored → Means f n p w3 w4 → SecondInverse f n p w₀ w4
-    second-passed w4 p eo M =
-        let q : some (slot n w3 4) ≡ inverse f n (slot n w₀ 0) = ap (λ (z : LuOutcome). where_factored z (slot n w3 4)) (sym eo) ∙ second-solved.2 in
+    pub second_passed : (w4 : List Float) (p : Pass) → o ≡ Factored → Means f n p w3 w4 → SecondInverse f n p w₀ w4
+    second_passed w4 p eo M =
+        let q : some (slot n w3 4) ≡ inverse f n (slot n w₀ 0) = ap (λ (z : LuOutcome). where_factored z (slot n w3 4)) (sym eo) ∙ second_solved.2 in
         record {
-          step = M.step ∙ (λ i. denman_beavers_next f n (second-solved.0 i) (some (second-solved.1 i)) (q i));
-          only = only_trans second-solved.3 (only_more (member_among (member later) (0 ∷ 1 ∷ 2 ∷ 5 ∷ []) refl) M.only);
+          step = M.step ∙ (λ i. denman_beavers_next f n (second_solved.0 i) (some (second_solved.1 i)) (q i));
+          only = only_trans second_solved.3 (only_more (member_among (member later) (0 ∷ 1 ∷ 2 ∷ 5 ∷ []) refl) M.only);
         }
 
-    pub second-failed : (k : ℕ) → o ≡ Singular k → SecondInverse f n Failed w₀ w3
+    pub second_failed : (k : ℕ) → o ≡ Singular k → SecondInverse f n Failed w₀ w3
     unfolding denman_beavers_next
-    second-failed k eo =
-        let q : none ≡ inverse f n (slot n w₀ 0) = ap (λ (z : LuOutcome). where_factored z (slot n w3 4)) (sym eo) ∙ second-solved.2 in
-        record { step = ap (denman_beavers_next f n (pair_in n w₀) (some (slot n w₀ 3))) q; only = second-solved.3 }
+    second_failed k eo =
+        let q : none ≡ inverse f n (slot n w₀ 0) = ap (λ (z : LuOutcome). where_factored z (slot n w3 4)) (sym eo) ∙ second_solved.2 in
+        record { step = ap (denman_beavers_next f n (pair_in n w₀) (some (slot n w₀ 3))) q; only = second_solved.3 }
 
     -- it factors y
-    pub second-reported : (v : Float) (ρ : Report) → v ≡ smallest_pivot f n (slot n w2 2) → ρ ≡ factored v → ρ ≡ lu_report f n (slot n w₀ 0)
+    pub second_reported : (v : Float) (ρ : Report) → v ≡ smallest_pivot f n (slot n w2 2) → ρ ≡ factored v → ρ ≡ lu_report f n (slot n w₀ 0)
     unfolding lu_report
-    second-reported v ρ ev e = e ∙ ap factored (ev ∙ ap (smallest_pivot f n) second-solved.4)
+    second_reported v ρ ev e = e ∙ ap factored (ev ∙ ap (smallest_pivot f n) second_solved.4)
 
   -- 1 / z, and the rest of the pass; or z is refused
   module _ (w1 w2 w3 : List Float) (o : LuOutcome) (e1 : w1 ≡ store w₀ 2 (slot n w₀ 1)) (e2 : w2 ≡ store w1 3 (identity_m n)) (Q : SlotQuotient f n 3 o w2 w3) where
-    first-solved : (pair_in n w3 ≡ pair_in n w₀) × (where_factored o (slot n w3 3) ≡ inverse f n (slot n w₀ 1)) × Only (member used) w₀ w3 × (slot n w2 2 ≡ slot n w₀ 1)
+    first_solved : (pair_in n w3 ≡ pair_in n w₀) × (where_factored o (slot n w3 3) ≡ inverse f n (slot n w₀ 1)) × Only (member used) w₀ w3 × (slot n w2 2 ≡ slot n w₀ 1)
     unfolding inverse
-    first-solved =
+    first_solved =
         let s1 = step_copy n r.order 1 2 (start (member used) n r) e1 refl refl refl in
         let s2 = step_identity n r.order 3 s1 e2 refl refl in
         let s3 = step_call (2 ∷ 3 ∷ []) s2 Q.only (member_among (member used) (2 ∷ 3 ∷ []) refl) in
         (λ i. record { y = held_at 0 n s3 refl i; z = held_at 1 n s3 refl i }, Q.result ∙ (λ i. division f n (held_at 2 n s2 refl i) (held_at 3 n s2 refl i)), s3.only, held_at 2 n s2 refl)
 
-    pub root-passed : (w4 : List Float) (p : Pass) → o ≡ Factored → SecondInverse f n p w3 w4 → OnePass (denman_beavers_step f n) (pair_in n) used p w₀ w4
+    pub root_passed : (w4 : List Float) (p : Pass) → o ≡ Factored → SecondInverse f n p w3 w4 → OnePass (denman_beavers_step f n) (pair_in n) used p w₀ w4
     unfolding denman_beavers_step
-    root-passed w4 p eo M =
-        let q : some (slot n w3 3) ≡ inverse f n (slot n w₀ 1) = ap (λ (z : LuOutcome). where_factored z (slot n w3 3)) (sym eo) ∙ first-solved.1 in
+    root_passed w4 p eo M =
+        let q : some (slot n w3 3) ≡ inverse f n (slot n w₀ 1) = ap (λ (z : LuOutcome). where_factored z (slot n w3 3)) (sym eo) ∙ first_solved.1 in
         record {
-          step = M.step ∙ (λ i. denman_beavers_next f n (first-solved.0 i) (q i) (inverse f n (first-solved.0 i).y));
-          only = only_trans first-solved.2 (only_more (member_among (member used) later refl) M.only);
+          step = M.step ∙ (λ i. denman_beavers_next f n (first_solved.0 i) (q i) (inverse f n (first_solved.0 i).y));
+          only = only_trans first_solved.2 (only_more (member_among (member used) later refl) M.only);
         }
 
-    pub root-failed : (k : ℕ) → o ≡ Singular k → OnePass (denman_beavers_step f n) (pair_in n) used Failed w₀ w3
+    pub root_failed : (k : ℕ) → o ≡ Singular k → OnePass (denman_beavers_step f n) (pair_in n) used Failed w₀ w3
     unfolding denman_beavers_step denman_beavers_next
-    root-failed k eo =
-        let q : none ≡ inverse f n (slot n w₀ 1) = ap (λ (z : LuOutcome). where_factored z (slot n w3 3)) (sym eo) ∙ first-solved.1 in
-        record { step = ap (λ (v : Option (List Float)). denman_beavers_next f n (pair_in n w₀) v (inverse f n (slot n w₀ 0))) q; only = first-solved.2 }
+    root_failed k eo =
+        let q : none ≡ inverse f n (slot n w₀ 1) = ap (λ (z : LuOutcome). where_factored z (slot n w3 3)) (sym eo) ∙ first_solved.1 in
+        record { step = ap (λ (v : Option (List Float)). denman_beavers_next f n (pair_in n w₀) v (inverse f n (slot n w₀ 0))) q; only = first_solved.2 }
 
     -- it factors z and then y
-    pub pair-reported : (v : Float) (ρ₁ ρ₂ ρ : Report) → v ≡ smallest_pivot f n (slot n w2 2) → ρ₁ ≡ factored v → ρ₂ ≡ lu_report f n (slot n w3 0) → ρ ≡ beside ρ₁ ρ₂ → ρ ≡ pair_report f n (pair_in n w₀)
+    pub pair_reported : (v : Float) (ρ₁ ρ₂ ρ : Report) → v ≡ smallest_pivot f n (slot n w2 2) → ρ₁ ≡ factored v → ρ₂ ≡ lu_report f n (slot n w3 0) → ρ ≡ beside ρ₁ ρ₂ → ρ ≡ pair_report f n (pair_in n w₀)
     unfolding pair_report lu_report
-    pair-reported v ρ₁ ρ₂ ρ ev a b e =
-        let z = a ∙ ap factored (ev ∙ ap (smallest_pivot f n) first-solved.3) in
-        let y = b ∙ ap (λ (p : Pair). lu_report f n p.y) first-solved.0 in
+    pair_reported v ρ₁ ρ₂ ρ ev a b e =
+        let z = a ∙ ap factored (ev ∙ ap (smallest_pivot f n) first_solved.3) in
+        let y = b ∙ ap (λ (p : Pair). lu_report f n p.y) first_solved.0 in
         e ∙ (λ i. beside (z i) (y i))
 
   -- ---- the square root: at order 1, and by the passes
@@ -155,22 +155,22 @@ module _ (f : Format) (n : ℕ) (w₀ : List Float) (r : Room n w₀) where
     changed = only_trans (step_identity n r.order 1 (start (member used) n r) e1 refl refl).only P.only
 
     -- what the passes end with is the definition's
-    ended-as : (q : Result Pair) → q ≡ ended (as_step p (pair_in n w2)) → (q >>= λ v. done 0 v.y) ≡ square_root f n (slot n w₀ 0)
+    ended_as : (q : Result Pair) → q ≡ ended (as_step p (pair_in n w2)) → (q >>= λ v. done 0 v.y) ≡ square_root f n (slot n w₀ 0)
     unfolding square_root
-    ended-as q e = rw (ne_eqb n 1 two) (ap (λ (z : Result Pair). z >>= λ v. done 0 v.y) (e ∙ ap ended passes))
+    ended_as q e = rw (ne_eqb n 1 two) (ap (λ (z : Result Pair). z >>= λ v. done 0 v.y) (e ∙ ap ended passes))
 
-    pub root-answers : answered p ≡ true → Replaced used n (square_root f n (slot n w₀ 0)) (Done 0) w₀ w2
+    pub root_answers : answered p ≡ true → Replaced used n (square_root f n (slot n w₀ 0)) (Done 0) w₀ w2
     unfolding outcome exit ◌>>=◌
-    root-answers e =
-        let x : done 0 (slot n w2 0) ≡ square_root f n (slot n w₀ 0) = ended-as (done 0 (pair_in n w2)) (answers_ended p (pair_in n w2) e) in
+    root_answers e =
+        let x : done 0 (slot n w2 0) ≡ square_root f n (slot n w₀ 0) = ended_as (done 0 (pair_in n w2)) (answers_ended p (pair_in n w2) e) in
         record { outcome = ap outcome x; result = ap (λ (z : Result (List Float)). exit (λ v. v) z (slot n w2 0)) x; only = changed }
 
-    pub root-refused : (o : Outcome) → answered p ≡ false → reported o ≡ refused 13 0 0 → Replaced used n (square_root f n (slot n w₀ 0)) o w₀ w2
+    pub root_refused : (o : Outcome) → answered p ≡ false → reported o ≡ refused 13 0 0 → Replaced used n (square_root f n (slot n w₀ 0)) o w₀ w2
     unfolding outcome exit ◌>>=◌
-    root-refused o e eo =
-        let x : refused 13 0 0 ≡ square_root f n (slot n w₀ 0) = ended-as (refused 13 0 0) (fails_ended p (pair_in n w2) e) in
+    root_refused o e eo =
+        let x : refused 13 0 0 ≡ square_root f n (slot n w₀ 0) = ended_as (refused 13 0 0) (fails_ended p (pair_in n w2) e) in
         record { outcome = eo ∙ ap outcome x; result = ap (λ (z : Result (List Float)). exit (λ v. v) z (slot n w2 0)) x; only = changed }
 
-    pub root-reported : (ρ : Report) → ρ ≡ iteration_report (pair_report f n) (after (λ _. denman_beavers_step f n) (pair_in n w1)) pass_limit → ρ ≡ root_report f n (slot n w₀ 0)
+    pub root_reported : (ρ : Report) → ρ ≡ iteration_report (pair_report f n) (after (λ _. denman_beavers_step f n) (pair_in n w1)) pass_limit → ρ ≡ root_report f n (slot n w₀ 0)
     unfolding root_report
-    root-reported ρ h = rw (ne_eqb n 1 two) (h ∙ (λ i. iteration_report (pair_report f n) (states i) pass_limit))
+    root_reported ρ h = rw (ne_eqb n 1 two) (h ∙ (λ i. iteration_report (pair_report f n) (states i) pass_limit))

@@ -21,7 +21,7 @@ use Rattle.arithmetic_questions.specs.Reports.{factored, report_at}
 use Rattle.arithmetic_matrices.proofs.PatchLaws.{patch_all}
 use Rattle.arithmetic_matrices.proofs.PartLaws.{part_all, part_put, put-put}
 use Rattle.arithmetic_matrices.proofs.Slots.{only_run, cleared_only}
-use Rattle.arithmetic_questions.proofs.AnswerLaws.{answer_passed, outcome-no, exit-no, workspace-no}
+use Rattle.arithmetic_questions.proofs.AnswerLaws.{answer_passed, outcome_no, exit_no, workspace_no}
 use Rattle.arithmetic_questions.proofs.ReportLaws.{report_as}
 use Rattle.lu_factoring.specs.Lu.{lu_at, lu_pivot, lu_outcome, lu_factors, lu_pivots}
 use Rattle.lu_factoring.specs.Kernels.{columns_done, diagonal_smallest, LuDoneIn}
@@ -62,10 +62,10 @@ module _ (f : Format) (n : ℕ) (a w : List Float) (size : length a ≡ n * n) (
         rw d.factors (only_run (λ s. ltb s 32) w 0 16 (lu_at f n a (columns_done n r)) refl (omega arith))
 
     -- every column passes: the factors and the pivots are copied out
-    pub computing-all : (fs fs' : List Float) (ps ps' : List ℕ) → r ≡ Factored → length rows ≡ n → length fs ≡ n * n → fs' ≡ part w1 0 (length fs) → ps' ≡ rows1
+    pub computing_all : (fs fs' : List Float) (ps ps' : List ℕ) → r ≡ Factored → length rows ≡ n → length fs ≡ n * n → fs' ≡ part w1 0 (length fs) → ps' ≡ rows1
         → Computing f n a fs fs' ps ps' w w1 Factored
     unfolding lu_factors lu_pivots
-    computing-all fs fs' ps ps' e l k u v =
+    computing_all fs fs' ps ps' e l k u v =
         let s : length (lu_at f n a n) ≡ n * n = length-lu_at f n a n size in
         record {
           outcome = sym e ∙ d.outcome;
@@ -75,8 +75,8 @@ module _ (f : Format) (n : ℕ) (a w : List Float) (size : length a ≡ n * n) (
         }
 
     -- a column does not pass: nothing is copied
-    pub computing-none : (fs : List Float) (ps : List ℕ) (k : ℕ) → r ≡ Singular k → Computing f n a fs fs ps ps w w1 (Singular k)
-    computing-none fs ps k e = record { outcome = sym e ∙ d.outcome; factors = refl; pivots = refl; only = within }
+    pub computing_none : (fs : List Float) (ps : List ℕ) (k : ℕ) → r ≡ Singular k → Computing f n a fs fs ps ps w w1 (Singular k)
+    computing_none fs ps k e = record { outcome = sym e ∙ d.outcome; factors = refl; pivots = refl; only = within }
 
 -- ---- compute
 
@@ -91,10 +91,10 @@ module _ (f : Format) (rows columns : ℕ) (a : List Float) (fs : List Float) (p
   compute_refused x e k =
       let c = compute_call rows columns a ps (length fs) (length w) in
       record {
-        outcome = k ∙ sym (outcome-no of_compute c whole q h x e);
-        factors = sym (exit-no of_compute c whole q h x e (λ (l : Factorisation). l.factors) fs);
-        pivots = sym (exit-no of_compute c whole q h x e (λ (l : Factorisation). l.pivot_rows) ps);
-        workspace = sym (workspace-no of_compute c whole q h x e w);
+        outcome = k ∙ sym (outcome_no of_compute c whole q h x e);
+        factors = sym (exit_no of_compute c whole q h x e (λ (l : Factorisation). l.factors) fs);
+        pivots = sym (exit_no of_compute c whole q h x e (λ (l : Factorisation). l.pivot_rows) ps);
+        workspace = sym (workspace_no of_compute c whole q h x e w);
       }
 
   -- none does: LU decides

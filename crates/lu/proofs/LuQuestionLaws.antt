@@ -23,16 +23,16 @@ use Rattle.lu.specs.Calls.{compute_call, solve_call, determinant_call}
 
 module _ (n : ℕ) (ps : List ℕ) (k : ℕ) where
   -- pivot k names a row, and those after it are left
-  pub pivots-more :
+  pub pivots_more :
       k < length ps → (leb k (get_or ps k 0) && ltb (get_or ps k 0) n) ≡ true → pivots_from n k (drop k ps) ≡ pivots_from n (k + 1) (drop (k + 1) ps)
   unfolding pivots_from
-  pivots-more h e = rw (add-one, drop-cons ps k 0, e)
+  pivots_more h e = rw (add-one, drop-cons ps k 0, e)
 
   -- it does not
-  pub pivots-stop :
+  pub pivots_stop :
       k < length ps → (leb k (get_or ps k 0) && ltb (get_or ps k 0) n) ≡ false → pivots_from n k (drop k ps) ≡ refused 9 k (get_or ps k 0)
   unfolding pivots_from
-  pivots-stop h e = rw (drop-cons ps k 0, e)
+  pivots_stop h e = rw (drop-cons ps k 0, e)
 
   -- there is none
   pub pivots_end : length ps ≤ k → pivots_from n k (drop k ps) ≡ passes
@@ -69,23 +69,23 @@ sizes rows columns entries pivots height width right out =
     exactly (rows * columns) entries ∷ exactly (height * width) right ∷ exactly rows pivots ∷ exactly (rows * width) out ∷ []
 
 module _ (rows columns : ℕ) (a : List Float) (ps : List ℕ) where
-  pub compute-asked :
+  pub compute_asked :
       (factors room : ℕ) → asked of_compute (compute_call rows columns a ps factors room)
       ≡ first_no (system rows columns (length a) (length ps) ++ (exactly (rows * columns) factors ∷ at_least8192 room ∷ []))
   unfolding asked first_no ◌>>=◌ shape_questions number_questions
-  compute-asked factors room = refl
+  compute_asked factors room = refl
 
-  pub determinant-asked :
+  pub determinant_asked :
       asked of_determinant (determinant_call rows columns a ps)
       ≡ first_no (system rows columns (length a) (length ps) ++ (pivots_from rows 0 ps ∷ []))
   unfolding asked first_no ◌>>=◌ shape_questions number_questions
-  determinant-asked = refl
+  determinant_asked = refl
 
-  pub solve-asked :
+  pub solve_asked :
       (height width : ℕ) (b : List Float) (out : ℕ) → asked of_solve (solve_call rows columns a ps height width b out)
       ≡ first_no ((sides rows columns height width ++ sizes rows columns (length a) (length ps) height width (length b) out) ++ (pivots_from rows 0 ps ∷ []))
   unfolding asked first_no ◌>>=◌ shape_questions number_questions
-  solve-asked height width b out = refl
+  solve_asked height width b out = refl
 
 -- ---- no product of two numbers up to 64 is too large
 
@@ -141,10 +141,10 @@ pub record Solvable (rows columns : ℕ) (F : List Float) (ps : List ℕ) (heigh
   pub solution : out ≡ rows * width
 
 module _ (rows columns : ℕ) (a : List Float) (ps : List ℕ) where
-  system-yes :
+  system_yes :
       Yes (ask (eqb rows columns) 2 rows columns) → Yes (at_most 64 rows) → Yes (exactly (rows * columns) (length a)) → Yes (exactly rows (length ps))
       → System rows columns a ps
-  system-yes s l m p =
+  system_yes s l m p =
       let square : rows ≡ columns = square_yes rows columns s in
       record {
         square = square;
@@ -157,30 +157,30 @@ module _ (rows columns : ℕ) (a : List Float) (ps : List ℕ) where
   determined s y = record { system = s; named = λ k h. pivots_yes rows 0 ps y k (rw s.pivots h) }
 
   module _ (q : Question) (e : q ≡ Passed) where
-    pub compute-passed : (out w : ℕ) → found q ≡ asked of_compute (compute_call rows columns a ps out w) → Computable rows columns a ps out w
-    compute-passed out w h =
-        let y = all_yes (told q (h ∙ compute-asked rows columns a ps out w)) e in
-        let s : System rows columns a ps = system-yes y.0 y.1.0 y.1.1.0 y.1.1.1.0 in
+    pub compute_passed : (out w : ℕ) → found q ≡ asked of_compute (compute_call rows columns a ps out w) → Computable rows columns a ps out w
+    compute_passed out w h =
+        let y = all_yes (told q (h ∙ compute_asked rows columns a ps out w)) e in
+        let s : System rows columns a ps = system_yes y.0 y.1.0 y.1.1.0 y.1.1.1.0 in
         record {
           system = s;
           factors = rw (← s.square) at (exactly_yes (rows * columns) out y.1.1.1.1.0);
           room = leb-true 8192 w (ask_yes _ 5 w 8192 y.1.1.1.1.1.0);
         }
 
-    pub determinant-passed : found q ≡ asked of_determinant (determinant_call rows columns a ps) → Determined rows columns a ps
-    determinant-passed h =
-        let y = all_yes (told q (h ∙ determinant-asked rows columns a ps)) e in
-        determined (system-yes y.0 y.1.0 y.1.1.0 y.1.1.1.0) y.1.1.1.1.0
+    pub determinant_passed : found q ≡ asked of_determinant (determinant_call rows columns a ps) → Determined rows columns a ps
+    determinant_passed h =
+        let y = all_yes (told q (h ∙ determinant_asked rows columns a ps)) e in
+        determined (system_yes y.0 y.1.0 y.1.1.0 y.1.1.1.0) y.1.1.1.1.0
 
-    pub solve-passed :
+    pub solve_passed :
         (height width : ℕ) (b : List Float) (out : ℕ) → found q ≡ asked of_solve (solve_call rows columns a ps height width b out)
         → Solvable rows columns a ps height width b out
-    solve-passed height width b out h =
-        let y = all_yes (told q (h ∙ solve-asked rows columns a ps height width b out)) e in
+    solve_passed height width b out h =
+        let y = all_yes (told q (h ∙ solve_asked rows columns a ps height width b out)) e in
         let z = y.1.1.1.1 in
         let tall : height ≡ rows = height_yes rows height width y.1.0 in
         record {
-          given = determined (system-yes y.0 y.1.1.0 z.0 z.1.1.0) z.1.1.1.1.0;
+          given = determined (system_yes y.0 y.1.1.0 z.0 z.1.1.0) z.1.1.1.1.0;
           tall = tall;
           narrow = at_most_yes 64 width y.1.1.1.0;
           right = rw tall at (exactly_yes (height * width) (length b) z.1.0);

@@ -210,21 +210,21 @@ module _ (f : Format) (n N : ℕ) (n≤N : n ≤ N) where
 
   module _ (a A : List Float) (c : Corner n N a A) (ok : FiniteFactors f N A) where
     -- the first n columns
-    pub lu-early : (k : ℕ) → k ≤ n → Corner n N (lu_at f n a k) (lu_at f N A k)
+    pub lu_early : (k : ℕ) → k ≤ n → Corner n N (lu_at f n a k) (lu_at f N A k)
     unfolding lu_at
-    lu-early zero h = c
-    lu-early (suc k) h =
+    lu_early zero h = c
+    lu_early (suc k) h =
         let m = lu_at f n a k in
         let M = lu_at f N A k in
-        let ih : Corner n N m M = lu-early k (le_trans (le-suc k) h) in
+        let ih : Corner n N m M = lu_early k (le_trans (le-suc k) h) in
         let e : pivot_row N M k ≡ pivot_row n m k = pivot_row_corner k h m M ih in
         eliminated_corner k h (swap_rows n k (pivot_row n m k) m) (swap_rows N k (pivot_row N M k) M)
         (subst (λ (p : ℕ). Corner n N (swap_rows n k (pivot_row n m k) m) (swap_rows N k p M)) (sym e) (swap_corner k (pivot_row n m k) h (pivot_row_in n m k h).1 m M ih))
         (unfold lu_pivot in ok k (lt_of_lt_of_le h n≤N))
 
     -- the others
-    pub lu-late : (k : ℕ) → n ≤ k → k ≤ N → Corner n N (lu_at f n a n) (lu_at f N A k)
-    lu-late k l = le_ind (λ (k : ℕ). k ≤ N → Corner n N (lu_at f n a n) (lu_at f N A k)) (λ h. lu-early n (le_refl n)) step k l
+    pub lu_late : (k : ℕ) → n ≤ k → k ≤ N → Corner n N (lu_at f n a n) (lu_at f N A k)
+    lu_late k l = le_ind (λ (k : ℕ). k ≤ N → Corner n N (lu_at f n a n) (lu_at f N A k)) (λ h. lu_early n (le_refl n)) step k l
       where
         step : (k : ℕ) → n ≤ k → (k ≤ N → Corner n N (lu_at f n a n) (lu_at f N A k)) → suc k ≤ N → Corner n N (lu_at f n a n) (lu_at f N A (suc k))
         step k K ih h =
@@ -233,31 +233,31 @@ module _ (f : Format) (n N : ℕ) (n≤N : n ≤ N) where
             unfold lu_at in eliminated_late k K m (swap_rows N k (pivot_row N M k) M)
             (swap_late k (pivot_row N M k) K h (le_trans K (pivot_row_in N M k h).0) (pivot_row_in N M k h).1 m M (ih (le_trans (le-suc k) h)))
 
-    pub factors-corner : Corner n N (lu_factors f n a) (lu_factors f N A)
+    pub factors_corner : Corner n N (lu_factors f n a) (lu_factors f N A)
     unfolding lu_factors
-    factors-corner = lu-late N n≤N (le_refl N)
+    factors_corner = lu_late N n≤N (le_refl N)
 
     -- the pivots
-    pub pivot-early : (k : ℕ) → k < n → lu_pivot f N A k ≡ lu_pivot f n a k
+    pub pivot_early : (k : ℕ) → k < n → lu_pivot f N A k ≡ lu_pivot f n a k
     unfolding lu_pivot
-    pivot-early k h = pivot_row_corner k h (lu_at f n a k) (lu_at f N A k) (lu-early k (le_of_lt h))
+    pivot_early k h = pivot_row_corner k h (lu_at f n a k) (lu_at f N A k) (lu_early k (le_of_lt h))
 
     -- a column that passes the test of order N passes that of order n, whose tolerance is no larger
     module _ (tol : (x : Float) → T (le (magnitude x) (tolerance f n)) → T (le (magnitude x) (tolerance f N))) where
-      passes-early : (k : ℕ) → k < n → pivot_refused f N (lu_at f N A k) k ≡ false → pivot_refused f n (lu_at f n a k) k ≡ false
+      passes_early : (k : ℕ) → k < n → pivot_refused f N (lu_at f N A k) k ≡ false → pivot_refused f n (lu_at f n a k) k ≡ false
       unfolding pivot_refused
-      passes-early k h t =
+      passes_early k h t =
           let m = lu_at f n a k in
           let M = lu_at f N A k in
-          let ih : Corner n N m M = lu-early k (le_of_lt h) in
+          let ih : Corner n N m M = lu_early k (le_of_lt h) in
           let x = at n m (pivot_row n m k) k in
           let e : at N M (pivot_row N M k) k ≡ x = ap (λ (p : ℕ). at N M p k) (pivot_row_corner k h m M ih) ∙ ih.same (pivot_row n m k) k (pivot_row_in n m k h).1 h in
           let t' : le (magnitude x) (tolerance f N) ≡ false = subst (λ (y : Float). le (magnitude y) (tolerance f N) ≡ false) e t in
           is_false (le (magnitude x) (tolerance f n)) (not_T (le (magnitude x) (tolerance f n)) (λ u. subst T t' (tol x u)))
 
-      pub outcome-corner : lu_outcome f N A ≡ Factored → lu_outcome f n a ≡ Factored
+      pub outcome_corner : lu_outcome f N A ≡ Factored → lu_outcome f n a ≡ Factored
       unfolding lu_outcome
-      outcome-corner t = from_make f n a n zero (λ k l u. passes-early k (within k u) (from_get f N A N zero t k l (beyond k u)))
+      outcome_corner t = from_make f n a n zero (λ k l u. passes_early k (within k u) (from_get f N A N zero t k l (beyond k u)))
         where
           within : (k : ℕ) → k < 0 + n → k < n
           within k u = omega arith

@@ -17,7 +17,7 @@ use Rattle.arithmetic_matrices.specs.Matrix.{at, part, put}
 use Rattle.arithmetic_matrices.specs.Kernels.{with_row, row_to, rows_to, patch}
 use Rattle.arithmetic_floats.proofs.Order.{split, same_or_not}
 use Rattle.arithmetic_matrices.proofs.MatrixLaws.{get_or-tab, index_lt, length-grid, at_set_same, at_set_other}
-use Rattle.arithmetic_matrices.proofs.PatchLaws.{patch-is, patch-more, patch_in, patch_below, patch_above, length-patch, row_none, row_more, row_skip, row_right, row_above, rows_none, rows_skip, rows_more, rows_all, rows_new, rows_old}
+use Rattle.arithmetic_matrices.proofs.PatchLaws.{patch_is, patch_more, patch_in, patch_below, patch_above, length-patch, row_none, row_more, row_skip, row_right, row_above, rows_none, rows_skip, rows_more, rows_all, rows_new, rows_old}
 use Rattle.arithmetic_matrices.proofs.PartLaws.{lent, returned, length_part}
 use Rattle.lu_factoring.specs.Lu.{pivot_among, exchange, swap_rows, pivot_reciprocal, reduced, eliminated_entry, eliminated, tolerance, pivot_refused, pivot_row, lu_at, lu_pivot, lu_from, lu_outcome, lu_pivots}
 use Rattle.lu_factoring.specs.Kernels.{subtracted, columns_done, LuDone, LuDoneIn}
@@ -90,7 +90,7 @@ pub reduce_row : (f : Format) (n k i : ℕ) (t x : Float) (a : List Float) → k
     → with_row n i (subtracted f n k i x (set a (i * n + k) x)) (set a (i * n + k) x) ≡ with_row n i (reduced f n k t a i) a
 unfolding with_row row_to reduced subtracted
 reduce_row f n k i t x a hk hi size ex =
-    patch-is nan (i * n) (i * n + n) (λ q. reduced f n k t a i (q - i * n)) a (patch (i * n) (i * n + n) (λ q. h (q - i * n)) b) (length-patch (i * n) (i * n + n) (λ q. h (q - i * n)) b ∙ same)
+    patch_is nan (i * n) (i * n + n) (λ q. reduced f n k t a i (q - i * n)) a (patch (i * n) (i * n + n) (λ q. h (q - i * n)) b) (length-patch (i * n) (i * n + n) (λ q. h (q - i * n)) b ∙ same)
     (λ q u v w. patch_in (i * n) (i * n + n) (λ q. h (q - i * n)) b q nan u v (rw same w) ∙ entry (q - i * n) (omega arith))
     (λ q u w. patch_below (i * n) (i * n + n) (λ q. h (q - i * n)) b q nan u (rw same w) ∙ get_or-set_other a (i * n + k) q x nan (omega arith))
     (λ q u v w. patch_above (i * n) (i * n + n) (λ q. h (q - i * n)) b q nan u v (rw same w) ∙ get_or-set_other a (i * n + k) q x nan (omega arith))
@@ -173,7 +173,7 @@ module _ (f : Format) (n : ℕ) (a : List Float) where
   pub pivots_turn : (ps₀ ps ps1 : List ℕ) (k p : ℕ) (m : List Float) → k < length ps₀ → m ≡ lu_at f n a k → p ≡ pivot_row n m k
       → ps ≡ patch 0 k (lu_pivot f n a) ps₀ → ps1 ≡ set ps k p → ps1 ≡ patch 0 (k + 1) (lu_pivot f n a) ps₀
   unfolding lu_pivot
-  pivots_turn ps₀ ps ps1 k p m h e ep eps e1 = rw (e1, eps, ep, e) (patch-more 0 0 (lu_pivot f n a) ps₀ k (omega arith) h)
+  pivots_turn ps₀ ps ps1 k p m h e ep eps e1 = rw (e1, eps, ep, e) (patch_more 0 0 (lu_pivot f n a) ps₀ k (omega arith) h)
 
   -- the test of the pivot, as the code has it
   pub refused_is : (k p : ℕ) (m : List Float) (u v t : Float) (b : Bool) → m ≡ lu_at f n a k → p ≡ pivot_row n m k → u ≡ at n m p k → v ≡ magnitude u → t ≡ tolerance f n

@@ -9,7 +9,7 @@ use lib.Ieee.{Float, Format, lt, le, mul, sub}
 use Rattle.arithmetic_floats.specs.Float.{magnitude}
 use Rattle.arithmetic_matrices.specs.Matrix.{at}
 use Rattle.arithmetic_matrices.specs.Kernels.{patch, row_to, rows_to, with_row}
-use Rattle.arithmetic_matrices.proofs.PatchLaws.{patch-none, length-rows_to}
+use Rattle.arithmetic_matrices.proofs.PatchLaws.{patch_none, length-rows_to}
 use Rattle.lu_factoring.specs.Lu.{pivot_among, pivot_row, swap_rows, pivot_reciprocal, reduced, eliminated_entry, eliminated, tolerance, lu_at, lu_pivot, lu_from, lu_outcome}
 use Rattle.lu_factoring.specs.Kernels.{subtracted, LuDone}
 use Rattle.lu_factoring.specs.declared.LuOutcome.TheVariants.{Factored, Singular}
@@ -31,7 +31,7 @@ pub columns_start : (f : Format) (n : ℕ) (a : List Float) (ps : List ℕ) → 
 unfolding lu_at lu_outcome
 columns_start f n a ps h l =
     let e : n - 0 ≡ n = omega arith in
-    record { within = omega arith; size = h; lent = l; rows = l; matrix = refl; pivots = patch-none 0 0 (lu_pivot f n a) ps; outcome = rw e }
+    record { within = omega arith; size = h; lent = l; rows = l; matrix = refl; pivots = patch_none 0 0 (lu_pivot f n a) ps; outcome = rw e }
 
 -- p is the pivot's row, u its entry, v the entry's magnitude and t the tolerance
 module _ (f : Format) (n : ℕ) {a : List Float} {ps₀ : List ℕ} {m : List Float} {ps : List ℕ} {k : ℕ} (p : ℕ) (u v t : Float) (c : Columns f n a ps₀ m ps k)
@@ -81,8 +81,8 @@ module _ {n : ℕ} {m : List Float} {k p : ℕ} {best : Float} {i : ℕ} (s : Pi
     test : lt (magnitude (at n m p k)) (magnitude (at n m i k)) ≡ lt best v
     test = ap₂ lt (sym s.size) (sym (e ∙ ap magnitude q))
 
-    pub pivot-new : {p' : ℕ} {best' : Float} → lt best v ≡ true → p' ≡ i → best' ≡ v → PivotSearch n m k p' best' (i + 1)
-    pivot-new t ep eb = record {
+    pub pivot_new : {p' : ℕ} {best' : Float} → lt best v ≡ true → p' ≡ i → best' ≡ v → PivotSearch n m k p' best' (i + 1)
+    pivot_new t ep eb = record {
       below = omega (arith, s.below);
       within = omega arith;
       row = omega arith;
@@ -90,8 +90,8 @@ module _ {n : ℕ} {m : List Float} {k p : ℕ} {best : Float} {i : ℕ} (s : Pi
       pivot = ep ∙ pivot_step n m k i p true s.below s.pivot (test ∙ t);
     }
 
-    pub pivot-kept : {p' : ℕ} {best' : Float} → lt best v ≡ false → p' ≡ p → best' ≡ best → PivotSearch n m k p' best' (i + 1)
-    pivot-kept t ep eb = record {
+    pub pivot_kept : {p' : ℕ} {best' : Float} → lt best v ≡ false → p' ≡ p → best' ≡ best → PivotSearch n m k p' best' (i + 1)
+    pivot_kept t ep eb = record {
       below = omega (arith, s.below);
       within = omega arith;
       row = omega (arith, s.row);

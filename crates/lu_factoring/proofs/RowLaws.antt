@@ -52,7 +52,7 @@ swap_part_more : (w : List Float) (x y m j : ℕ) (u : List Float) → Apart x m
     → set (set u (x + j) (item u (y + j))) (y + j) (item u (x + j)) ≡ put (put w x (part w y (j + 1))) y (part w x (j + 1))
 unfolding part
 swap_part_more w x y m j u h b e =
-    rw (e, to-y, to-x)
+    rw (e, to_y, to_x)
     (ap (λ (l : List Float). set l (y + j) (X j)) (set_put_apart U y (tab j X) (x + j) (Y j) gap ∙ ap (λ (l : List Float). put l y (tab j X)) (put_tab_more w x j Y))
     ∙ put_tab_more (put w x (tab (j + 1) Y)) y j X)
   where
@@ -65,11 +65,11 @@ swap_part_more w x y m j u h b e =
     U : List Float
     U = put w x (tab j Y)
 
-    to-y : item (put U y (tab j X)) (y + j) ≡ Y j
-    to-y = read_next U y j X ∙ read_apart w x j Y y m (apart_sym x m y m h) b
+    to_y : item (put U y (tab j X)) (y + j) ≡ Y j
+    to_y = read_next U y j X ∙ read_apart w x j Y y m (apart_sym x m y m h) b
 
-    to-x : item (put U y (tab j X)) (x + j) ≡ X j
-    to-x = read_apart U y j X x m h b ∙ read_next w x j Y
+    to_x : item (put U y (tab j X)) (x + j) ≡ X j
+    to_x = read_apart U y j X x m h b ∙ read_next w x j Y
 
     gap : (x + j < y) ⊎ (y + length (tab j X) ≤ x + j)
     gap = ⊎_elim (λ p. inl (omega arith)) (λ p. inr (omega (arith, length-tab j X))) h

@@ -21,7 +21,7 @@ use Rattle.lu_factoring.specs.Lu.{exchange, lu_pivot, lu_factors, lu_pivots}
 use Rattle.lu_factoring.specs.Solve.{swap_items, permuted, forward_step, forward, back_step, back, solved, solution}
 use Rattle.lu_factoring.specs.Finite.{FiniteFactors, FiniteForward, FiniteBackStep, FiniteBack, FiniteSolution}
 use Rattle.lu_factoring.proofs.LuLaws.{exchange_in, exchange_other, pivots_in}
-use Rattle.lu_factoring.proofs.Factors.{apart, apart', factors-corner, pivot-early}
+use Rattle.lu_factoring.proofs.Factors.{apart, apart', factors_corner, pivot_early}
 
 -- X, of N numbers, begins with the n numbers of x, and the others are zeros
 pub record Top (n N : ℕ) (x X : List Float) : Type 0 where
@@ -46,14 +46,14 @@ module _ (f : Format) (n N : ℕ) (n≤N : n ≤ N) where
   -- ---- the exchanges
   module _ (p P : List ℕ) (x X : List Float) (c : Top n N x X) (early : (k : ℕ) → k < n → get_or P k 0 ≡ get_or p k 0) (inside : (k : ℕ) → k < n → get_or p k 0 < n)
       (outside : (k : ℕ) → n ≤ k → k < N → (n ≤ get_or P k 0) × (get_or P k 0 < N)) where
-    permuted-early : (k : ℕ) → k ≤ n → Top n N (permuted n p x k) (permuted N P X k)
+    permuted_early : (k : ℕ) → k ≤ n → Top n N (permuted n p x k) (permuted N P X k)
     unfolding permuted swap_items
-    permuted-early zero h = c
-    permuted-early (suc k) h =
+    permuted_early zero h = c
+    permuted_early (suc k) h =
         let y = permuted n p x k in
         let Y = permuted N P X k in
         let q : ℕ = get_or p k 0 in
-        let ih : Top n N y Y = permuted-early k (le_trans (le-suc k) h) in
+        let ih : Top n N y Y = permuted_early k (le_trans (le-suc k) h) in
         record {
           same = λ i I.
               item-tab N (λ i. item Y (exchange k (get_or P k 0) i)) i (up_to I)
@@ -67,9 +67,9 @@ module _ (f : Format) (n N : ℕ) (n≤N : n ≤ N) where
               (ih.below i l u);
         }
 
-    permuted-late : (k : ℕ) → n ≤ k → k ≤ N → Top n N (permuted n p x n) (permuted N P X k)
+    permuted_late : (k : ℕ) → n ≤ k → k ≤ N → Top n N (permuted n p x n) (permuted N P X k)
     unfolding permuted swap_items
-    permuted-late k l = le_ind (λ (k : ℕ). k ≤ N → Top n N (permuted n p x n) (permuted N P X k)) (λ h. permuted-early n (le_refl n)) step k l
+    permuted_late k l = le_ind (λ (k : ℕ). k ≤ N → Top n N (permuted n p x n) (permuted N P X k)) (λ h. permuted_early n (le_refl n)) step k l
       where
         step : (k : ℕ) → n ≤ k → (k ≤ N → Top n N (permuted n p x n) (permuted N P X k)) → suc k ≤ N → Top n N (permuted n p x n) (permuted N P X (suc k))
         step k K ih' h =
@@ -87,24 +87,24 @@ module _ (f : Format) (n N : ℕ) (n≤N : n ≤ N) where
                   (ih.below (exchange k q i) (exchange_in (λ (z : ℕ). n ≤ z) k q i K o.0 l) (exchange_in (λ (z : ℕ). z < N) k q i h o.1 u));
             }
 
-    permuted-sound : Sound f n x → (k : ℕ) → k ≤ n → Sound f n (permuted n p x k)
+    permuted_sound : Sound f n x → (k : ℕ) → k ≤ n → Sound f n (permuted n p x k)
     unfolding permuted swap_items
-    permuted-sound s zero h i I = s i I
-    permuted-sound s (suc k) h i I =
+    permuted_sound s zero h i I = s i I
+    permuted_sound s (suc k) h i I =
         let y = permuted n p x k in
         subst (λ (z : Float). Fits f z × Plus z) (sym (item-tab n (λ i. item y (exchange k (get_or p k 0) i)) i I))
-        (permuted-sound s k (le_trans (le-suc k) h) (exchange k (get_or p k 0) i) (exchange_in (λ (z : ℕ). z < n) k (get_or p k 0) i h (inside k h) I))
+        (permuted_sound s k (le_trans (le-suc k) h) (exchange k (get_or p k 0) i) (exchange_in (λ (z : ℕ). z < n) k (get_or p k 0) i h (inside k h) I))
 
   -- ---- forward substitution
   module _ (m M : List Float) (d : Corner n N m M) where
     module _ (x X : List Float) (c : Top n N x X) (ok : FiniteForward f N M X) where
-      forward-early : (k : ℕ) → k ≤ n → Top n N (forward f n m x k) (forward f N M X k)
+      forward_early : (k : ℕ) → k ≤ n → Top n N (forward f n m x k) (forward f N M X k)
       unfolding forward forward_step
-      forward-early zero h = c
-      forward-early (suc k) h =
+      forward_early zero h = c
+      forward_early (suc k) h =
           let y = forward f n m x k in
           let Y = forward f N M X k in
-          let ih : Top n N y Y = forward-early k (le_trans (le-suc k) h) in
+          let ih : Top n N y Y = forward_early k (le_trans (le-suc k) h) in
           record {
             same = λ i I.
                 item-tab N (λ i. cond (ltb k i) (sub f (item Y i) (mul f (at N M i k) (item Y k))) (item Y i)) i (up_to I)
@@ -118,8 +118,8 @@ module _ (f : Format) (n N : ℕ) (n≤N : n ≤ N) where
                 (ih.below i l u));
           }
 
-      forward-late : (k : ℕ) → n ≤ k → k ≤ N → Top n N (forward f n m x n) (forward f N M X k)
-      forward-late k l = le_ind (λ (k : ℕ). k ≤ N → Top n N (forward f n m x n) (forward f N M X k)) (λ h. forward-early n (le_refl n)) step k l
+      forward_late : (k : ℕ) → n ≤ k → k ≤ N → Top n N (forward f n m x n) (forward f N M X k)
+      forward_late k l = le_ind (λ (k : ℕ). k ≤ N → Top n N (forward f n m x n) (forward f N M X k)) (λ h. forward_early n (le_refl n)) step k l
         where
           step : (k : ℕ) → n ≤ k → (k ≤ N → Top n N (forward f n m x n) (forward f N M X k)) → suc k ≤ N → Top n N (forward f n m x n) (forward f N M X (suc k))
           step k K ih' h =
@@ -138,12 +138,12 @@ module _ (f : Format) (n N : ℕ) (n≤N : n ≤ N) where
                     (ih.below i l u));
               }
 
-    forward-sound : (x : List Float) → Sound f n x → (k : ℕ) → Sound f n (forward f n m x k)
+    forward_sound : (x : List Float) → Sound f n x → (k : ℕ) → Sound f n (forward f n m x k)
     unfolding forward forward_step
-    forward-sound x s zero i I = s i I
-    forward-sound x s (suc k) i I =
+    forward_sound x s zero i I = s i I
+    forward_sound x s (suc k) i I =
         let y = forward f n m x k in
-        let ih = forward-sound x s k i I in
+        let ih = forward_sound x s k i I in
         subst (λ (z : Float). Fits f z × Plus z) (sym (item-tab n (λ i. cond (ltb k i) (sub f (item y i) (mul f (at n m i k) (item y k))) (item y i)) i I))
         (pick (λ (z : Float). Fits f z × Plus z) (ltb k i) (sub f (item y i) (mul f (at n m i k) (item y k))) (item y i)
         (λ t. (sub-fits f (item y i) (mul f (at n m i k) (item y k)), sub-plus f (item y i) (mul f (at n m i k) (item y k)) ih.0 (mul-fits f (at n m i k) (item y k)) ih.1))
@@ -151,9 +151,9 @@ module _ (f : Format) (n N : ℕ) (n≤N : n ≤ N) where
 
     -- ---- back substitution
     -- a row below the corner: the unknown is a zero, and the corner stays
-    back_step-late : (k : ℕ) → n ≤ k → k < N → (x X : List Float) → Top n N x X → Sound f n x → FiniteBackStep f N M k X → Top n N x (back_step f N M k X)
+    back_step_late : (k : ℕ) → n ≤ k → k < N → (x X : List Float) → Top n N x X → Sound f n x → FiniteBackStep f N M k X → Top n N x (back_step f N M k X)
     unfolding back_step
-    back_step-late k K h x X c s ok =
+    back_step_late k K h x X c s ok =
         let q = div f (item X k) (at N M k k) in
         let Q : Zero q = div_zero_left f (item X k) (at N M k k) (c.below k K h) ok.quotient in
         let g : ℕ → Float = λ i. cond (eqb i k) q (cond (ltb i k) (sub f (item X i) (mul f (at N M i k) q)) (item X i)) in
@@ -174,9 +174,9 @@ module _ (f : Format) (n N : ℕ) (n≤N : n ≤ N) where
         }
 
     -- a row of the corner: the zeros below it stay
-    back_step-early : (k : ℕ) → k < n → (x X : List Float) → Top n N x X → Top n N (back_step f n m k x) (back_step f N M k X)
+    back_step_early : (k : ℕ) → k < n → (x X : List Float) → Top n N x X → Top n N (back_step f n m k x) (back_step f N M k X)
     unfolding back_step
-    back_step-early k h x X c =
+    back_step_early k h x X c =
         let g : ℕ → Float = λ i. cond (eqb i k) (div f (item x k) (at n m k k)) (cond (ltb i k) (sub f (item x i) (mul f (at n m i k) (div f (item x k) (at n m k k)))) (item x i)) in
         let G : ℕ → Float = λ i. cond (eqb i k) (div f (item X k) (at N M k k)) (cond (ltb i k) (sub f (item X i) (mul f (at N M i k) (div f (item X k) (at N M k k)))) (item X i)) in
         record {
@@ -194,10 +194,10 @@ module _ (f : Format) (n N : ℕ) (n≤N : n ≤ N) where
 
     module _ (x X : List Float) (c : Top n N x X) (s : Sound f n x) (ok : FiniteBack f N M X) where
       -- the last N - n rows
-      back-late : (D : ℕ) → D ≤ N - n → Top n N x (back f N M X D)
+      back_late : (D : ℕ) → D ≤ N - n → Top n N x (back f N M X D)
       unfolding back
-      back-late zero h = c
-      back-late (suc D) h = back_step-late (N - suc D) (low D h) (high D h) x (back f N M X D) (back-late D (le_trans (le-suc D) h)) s (ok D (bound D h))
+      back_late zero h = c
+      back_late (suc D) h = back_step_late (N - suc D) (low D h) (high D h) x (back f N M X D) (back_late D (le_trans (le-suc D) h)) s (ok D (bound D h))
         where
           low : (D : ℕ) → suc D ≤ N - n → n ≤ N - suc D
           low D h = omega arith
@@ -211,14 +211,14 @@ module _ (f : Format) (n N : ℕ) (n≤N : n ≤ N) where
       -- and then the others
       back_early : (e : ℕ) → e ≤ n → Top n N (back f n m x e) (back f N M X (e + (N - n)))
       unfolding back
-      back_early zero h = subst (λ (D : ℕ). Top n N x (back f N M X D)) (start N n) (back-late (N - n) (le_refl (N - n)))
+      back_early zero h = subst (λ (D : ℕ). Top n N x (back f N M X D)) (start N n) (back_late (N - n) (le_refl (N - n)))
         where
           start : (N n : ℕ) → N - n ≡ 0 + (N - n)
           start N n = omega arith
       back_early (suc e) h =
           subst (λ (D : ℕ). Top n N (back_step f n m (n - suc e) (back f n m x e)) (back f N M X D)) (sym (suc-add e (N - n)))
           (subst (λ (k : ℕ). Top n N (back_step f n m (n - suc e) (back f n m x e)) (back_step f N M k (back f N M X (e + (N - n))))) (sym (row e h))
-          (back_step-early (n - suc e) (inner e h) (back f n m x e) (back f N M X (e + (N - n))) (back_early e (le_trans (le-suc e) h))))
+          (back_step_early (n - suc e) (inner e h) (back f n m x e) (back f N M X (e + (N - n))) (back_early e (le_trans (le-suc e) h))))
         where
           row : (e : ℕ) → suc e ≤ n → N - suc (e + (N - n)) ≡ n - suc e
           row e h = omega arith
@@ -226,8 +226,8 @@ module _ (f : Format) (n N : ℕ) (n≤N : n ≤ N) where
           inner : (e : ℕ) → suc e ≤ n → n - suc e < n
           inner e h = omega arith
 
-      back-top : Top n N (back f n m x n) (back f N M X N)
-      back-top = subst (λ (D : ℕ). Top n N (back f n m x n) (back f N M X D)) (whole N n n≤N) (back_early n (le_refl n))
+      back_top : Top n N (back f n m x n) (back f N M X N)
+      back_top = subst (λ (D : ℕ). Top n N (back f n m x n) (back f N M X D)) (whole N n n≤N) (back_early n (le_refl n))
         where
           whole : (N n : ℕ) → n ≤ N → n + (N - n) ≡ N
           whole N n h = omega arith
@@ -239,20 +239,20 @@ module _ (f : Format) (n N : ℕ) (n≤N : n ≤ N) where
   solution_top d D b B cd fd cb j J s ok =
       let m = lu_factors f n d in
       let M = lu_factors f N D in
-      let cm : Corner n N m M = factors-corner f n N n≤N d D cd fd in
+      let cm : Corner n N m M = factors_corner f n N n≤N d D cd fd in
       let start : Top n N (column n n b j) (column N N B j) = record {
         same = λ i I. item-column N N B j i (up_to I) ∙ cb.same i j I J ∙ sym (item-column n n b j i I);
         below = λ i l u. subst Zero (sym (item-column N N B j i u)) (cb.below i j l u J);
       } in
       let small : (k : ℕ) → k < n → get_or (lu_pivots f n d) k 0 ≡ lu_pivot f n d k = λ k h. unfold lu_pivots in get_or-tab n (lu_pivot f n d) k 0 h in
       let large : (k : ℕ) → k < N → get_or (lu_pivots f N D) k 0 ≡ lu_pivot f N D k = λ k h. unfold lu_pivots in get_or-tab N (lu_pivot f N D) k 0 h in
-      let early : (k : ℕ) → k < n → get_or (lu_pivots f N D) k 0 ≡ get_or (lu_pivots f n d) k 0 = λ k h. large k (up_to h) ∙ pivot-early f n N n≤N d D cd fd k h ∙ sym (small k h) in
+      let early : (k : ℕ) → k < n → get_or (lu_pivots f N D) k 0 ≡ get_or (lu_pivots f n d) k 0 = λ k h. large k (up_to h) ∙ pivot_early f n N n≤N d D cd fd k h ∙ sym (small k h) in
       let inside : (k : ℕ) → k < n → get_or (lu_pivots f n d) k 0 < n = λ k h. (pivots_in f n d k h).1 in
       let outside : (k : ℕ) → n ≤ k → k < N → (n ≤ get_or (lu_pivots f N D) k 0) × (get_or (lu_pivots f N D) k 0 < N) = λ k l h. (le_trans l (pivots_in f N D k h).0, (pivots_in f N D k h).1) in
       let x = permuted n (lu_pivots f n d) (column n n b j) n in
       let X = permuted N (lu_pivots f N D) (column N N B j) N in
-      let tx : Top n N x X = permuted-late (lu_pivots f n d) (lu_pivots f N D) (column n n b j) (column N N B j) start early inside outside N n≤N (le_refl N) in
-      let sx : Sound f n x = permuted-sound (lu_pivots f n d) (lu_pivots f N D) (column n n b j) (column N N B j) start early inside outside s n (le_refl n) in
-      let ty : Top n N (forward f n m x n) (forward f N M X N) = forward-late m M cm x X tx ok.forwards N n≤N (le_refl N) in
-      let sy : Sound f n (forward f n m x n) = forward-sound m M cm x sx n in
-      back-top m M cm (forward f n m x n) (forward f N M X N) ty sy ok.backwards
+      let tx : Top n N x X = permuted_late (lu_pivots f n d) (lu_pivots f N D) (column n n b j) (column N N B j) start early inside outside N n≤N (le_refl N) in
+      let sx : Sound f n x = permuted_sound (lu_pivots f n d) (lu_pivots f N D) (column n n b j) (column N N B j) start early inside outside s n (le_refl n) in
+      let ty : Top n N (forward f n m x n) (forward f N M X N) = forward_late m M cm x X tx ok.forwards N n≤N (le_refl N) in
+      let sy : Sound f n (forward f n m x n) = forward_sound m M cm x sx n in
+      back_top m M cm (forward f n m x n) (forward f N M X N) ty sy ok.backwards

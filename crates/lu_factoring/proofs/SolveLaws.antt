@@ -16,7 +16,7 @@ use Rattle.arithmetic_matrices.specs.Matrix.{at, item}
 use Rattle.arithmetic_matrices.specs.Kernels.{patch}
 use Rattle.arithmetic_floats.proofs.Order.{split, same_or_not}
 use Rattle.arithmetic_matrices.proofs.MatrixLaws.{length-tab, tab_is}
-use Rattle.arithmetic_matrices.proofs.PatchLaws.{length-patch, patch-more, patch_in, patch_below, patch_above}
+use Rattle.arithmetic_matrices.proofs.PatchLaws.{length-patch, patch_more, patch_in, patch_below, patch_above}
 use Rattle.lu_factoring.specs.Solve.{swap_items, permuted, forward_step, forward, back_step, back, swaps, signed_product}
 use Rattle.lu_factoring.specs.Kernels.{lowered}
 
@@ -37,7 +37,7 @@ module _ (f : Format) (n : ℕ) (F : List Float) (k lo i : ℕ) (l : List Float)
   pub lowered_more : (y : List Float) (v z : Float) → i < length l → y ≡ patch lo i (lowered f n F k l) l → v ≡ at n F i k → z ≡ item l k
       → set y i (sub f (item y i) (mul f v z)) ≡ patch lo (i + 1) (lowered f n F k l) l
   lowered_more y v z hi e ev ez =
-      rw (e, ev, ez, patch_above lo i (lowered f n F k l) l i nan from (omega arith) hi) (patch-more nan lo (lowered f n F k l) l i from hi)
+      rw (e, ev, ez, patch_above lo i (lowered f n F k l) l i nan from (omega arith) hi) (patch_more nan lo (lowered f n F k l) l i from hi)
 
 -- ---- forward substitution
 

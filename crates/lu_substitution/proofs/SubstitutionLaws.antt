@@ -9,7 +9,7 @@ use lib.ListN.{length, get_or}
 use lib.Ieee.{Float, nan, Format}
 use Rattle.arithmetic_matrices.specs.Matrix.{tab, at, item, part, put}
 use Rattle.arithmetic_matrices.proofs.MatrixLaws.{length-grid, more_rows}
-use Rattle.arithmetic_matrices.proofs.PatchLaws.{patch-none}
+use Rattle.arithmetic_matrices.proofs.PatchLaws.{patch_none}
 use Rattle.arithmetic_matrices.proofs.PartLaws.{length-put, put_all, part_all}
 use Rattle.lu_factoring.specs.Solve.{swap_items, permuted, forward, back, solved, solved_matrix}
 use Rattle.lu_factoring.specs.Kernels.{each_column}
@@ -103,7 +103,7 @@ forwarded_start {f} {n} {m} {F} {x₀} l = record {
   size = l;
   factors = sym (zero-mul n);
   place = sym (zero-mul m);
-  list = each_start n m (forward_to f n F 0) x₀ l (λ a s. sym (patch-none nan 0 (item (forward f n F a n)) a));
+  list = each_start n m (forward_to f n F 0) x₀ l (λ a s. sym (patch_none nan 0 (item (forward f n F a n)) a));
 }
 
 module _ {f : Format} {n m : ℕ} {F x₀ x : List Float} {q y i : ℕ} (s : Forwarded f n m F x₀ x q y i) where
@@ -146,7 +146,7 @@ backed_start {f} {n} {m} {F} {x₀} l = record {
   size = l;
   factors = refl;
   place = refl;
-  list = each_start n m (back_from f n F n) x₀ l (λ a s. sym (patch-none nan n (item (back f n F a n)) a));
+  list = each_start n m (back_from f n F n) x₀ l (λ a s. sym (patch_none nan n (item (back f n F a n)) a));
 }
 
 module _ {f : Format} {n m : ℕ} {F x₀ x : List Float} {q y i : ℕ} (s : Backed f n m F x₀ x q y i) where

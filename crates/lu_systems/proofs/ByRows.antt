@@ -15,7 +15,7 @@ use Rattle.arithmetic_matrices.specs.Matrix.{tab, at, item, part, put, Apart}
 use Rattle.arithmetic_matrices.specs.Kernels.{patch}
 use Rattle.arithmetic_floats.proofs.Order.{same_or_not}
 use Rattle.arithmetic_matrices.proofs.MatrixLaws.{length-tab, get_or-tab, tab_cong, tab_is, index_lt, more_rows}
-use Rattle.arithmetic_matrices.proofs.PatchLaws.{length-patch, patch-is, patch_in, patch_below, patch_above, patch-none, patch-more, patch_all}
+use Rattle.arithmetic_matrices.proofs.PatchLaws.{length-patch, patch_is, patch_in, patch_below, patch_above, patch_none, patch_more, patch_all}
 use Rattle.arithmetic_matrices.proofs.ProductLaws.{put_more}
 use Rattle.arithmetic_matrices.proofs.PartLaws.{at_part, length-put, get_or-put_after, get_or-put_apart}
 use Rattle.lu_factoring.specs.Solve.{forward_step, forward, back_step, back}
@@ -221,7 +221,7 @@ patch_down : (i n : ℕ) (g : ℕ → Float) (l : List Float) → i < n → i < 
 patch_down i n g l hi hl =
     let P = patch (i + 1) n g l in
     let s : length (patch (i + 1) n g l) ≡ length l = length-patch (i + 1) n g l in
-    patch-is nan i n g l (set P i (g i)) (length-set P i (g i) ∙ s)
+    patch_is nan i n g l (set P i (g i)) (length-set P i (g i) ∙ s)
     (λ q u v h.
     ⊎_elim (λ (e : q ≡ i). rw e (get_or-set_same P i (g i) nan (omega arith)))
     (λ (d : q ≡ i → ⊥). get_or-set_other P i q (g i) nan d ∙ patch_in (i + 1) n g l q nan (omega arith) v h) (same_or_not q i))
@@ -244,7 +244,7 @@ module _ (f : Format) (x n m : ℕ) (F w₀ w : List Float) (room : x + n * m �
       (low_cong f _ _ _ _ _ _ i (patch_above 0 i G l i nan (omega arith) (omega arith) (omega arith)) (λ k h. refl)
       (λ k h. patch_in 0 i G l k nan (omega arith) h (omega arith))
       ∙ sym (forward_is f n F l i hi))
-      ∙ patch-more nan 0 G l i (omega arith) (omega arith))
+      ∙ patch_more nan 0 G l i (omega arith) (omega arith))
       (e1
       ∙ set_row w x n m i (λ l. less_products f (item l i) (at n F i) (item l) i) _ hi long
       (λ c s. low_cong f _ _ _ _ _ _ i (row_item w x n m i c hi s) read (λ k h. item-part w x n m k c (omega arith) s)))
@@ -295,7 +295,7 @@ module _ (f : Format) (o x n m : ℕ) (w₀ w : List Float) (room : x + n * m �
   F₀ = part w₀ o (n * n)
 
   pub forward_rows_none : w₀ ≡ put w₀ x (each_column n m (forward_to f n F₀ 0) (part w₀ x (n * m)))
-  forward_rows_none = each_none w₀ x n m (forward_to f n F₀ 0) room (λ l s. sym (patch-none nan 0 (item (forward f n F₀ l n)) l))
+  forward_rows_none = each_none w₀ x n m (forward_to f n F₀ 0) room (λ l s. sym (patch_none nan 0 (item (forward f n F₀ l n)) l))
 
   pub forward_rows_more : (i : ℕ) (w1 : List Float) → i < n → w ≡ put w₀ x (each_column n m (forward_to f n F₀ i) (part w₀ x (n * m)))
       → w1 ≡ put w (x + i * m) (tab m (lower_entry f i (row_at w (o + i * n)) (column_at m w x) (row_at w (x + i * m))))
@@ -312,7 +312,7 @@ module _ (f : Format) (o x n m : ℕ) (w₀ w : List Float) (room : x + n * m �
   forward_rows_all i h e = (rw h at e) ∙ ap (put w₀ x) (each_cong n m (forward_to f n F₀ n) (λ l. forward f n F₀ l n) (part w₀ x (n * m)) (forward_all f n F₀))
 
   pub back_rows_none : w₀ ≡ put w₀ x (each_column n m (back_from f n F₀ n) (part w₀ x (n * m)))
-  back_rows_none = each_none w₀ x n m (back_from f n F₀ n) room (λ l s. sym (patch-none nan n (item (back f n F₀ l n)) l))
+  back_rows_none = each_none w₀ x n m (back_from f n F₀ n) room (λ l s. sym (patch_none nan n (item (back f n F₀ l n)) l))
 
   back_rows_more : (i k : ℕ) (w1 : List Float) → i + suc k ≡ n → w ≡ put w₀ x (each_column n m (back_from f n F₀ (i + 1)) (part w₀ x (n * m)))
       → w1 ≡ put w (x + i * m) (tab m (upper_entry f k (row_at w (o + i * n + i)) (column_at m w (x + i * m)) (row_at w (x + i * m))))

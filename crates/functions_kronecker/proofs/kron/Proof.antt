@@ -8,9 +8,9 @@ use Rattle.arithmetic_questions.specs.Result.{done}
 use Rattle.arithmetic_questions.specs.Questions.{of_kron}
 use Rattle.functions_definitions.specs.Kronecker.{kron_m}
 use Rattle.functions_definitions.specs.Calls.{kron}
-use Rattle.functions_kronecker.proofs.KroneckerQuestions.{call, kron-fitting}
+use Rattle.functions_kronecker.proofs.KroneckerQuestions.{call, kron_fitting}
 use Rattle.arithmetic_questions.specs.Reports.{nothing}
-use Rattle.arithmetic_questions.proofs.OutputLaws.{output_refused, output-done}
+use Rattle.arithmetic_questions.proofs.OutputLaws.{output_refused, output_done}
 use Rattle.arithmetic_questions.proofs.ReportLaws.{report_refused, report_done}
 use Rattle.functions_kronecker.proofs.kron.Statement.{statement}
 use Rattle.functions_kronecker.proofs.kron.Tie as tie
@@ -20,7 +20,7 @@ kron-into-requires c κs =
     let (told, ask-kron, s) : tie.After-enum-told × tie.After-ask-kron × tie.Start = search in
     let a = s.args in
     let asked = ask-kron.ask-kron in
-    let f = kron-fitting a.m a.n a.a.now a.p a.q a.b.now (length a.out.now) asked.result told.enum_told.given.1 asked.ensures in
+    let f = kron_fitting a.m a.n a.a.now a.p a.q a.b.now (length a.out.now) asked.result told.enum_told.given.1 asked.ensures in
     omega arith
 
 returns : tie.Need-returns
@@ -40,7 +40,7 @@ returns-2 c =
     tie.After-done × tie.After-kron-into × tie.After-enum-told × tie.After-ask-kron × tie.Start = search in
     let a = s.args in
     let asked = ask-kron.ask-kron in
-    let R = output-done of_kron (call a.m a.n a.a.now a.p a.q a.b.now (length a.out.now)) asked.result asked.ensures at_done.done.result.outcome a.out.now
+    let R = output_done of_kron (call a.m a.n a.a.now a.p a.q a.b.now (length a.out.now)) asked.result asked.ensures at_done.done.result.outcome a.out.now
     0 (kron_m binary64 a.m a.n a.a.now a.p a.q a.b.now) _ told.enum_told.given.1 at_done.done.ensures.0 kron-into.kron-into.ensures in
     (R, at_done.done.ensures.1 ∙ report_done _ nothing 0 (sym at_done.done.ensures.0 ∙ R.outcome))
 

@@ -8,9 +8,9 @@ use Rattle.arithmetic_questions.specs.Result.{done}
 use Rattle.arithmetic_questions.specs.Questions.{of_kron_sum}
 use Rattle.functions_definitions.specs.Kronecker.{kron_sum_m}
 use Rattle.functions_definitions.specs.Calls.{kron_sum}
-use Rattle.functions_kronecker.proofs.KroneckerQuestions.{call, kron-sum-fitting}
+use Rattle.functions_kronecker.proofs.KroneckerQuestions.{call, kron_sum_fitting}
 use Rattle.arithmetic_questions.specs.Reports.{nothing}
-use Rattle.arithmetic_questions.proofs.OutputLaws.{output_refused, output-done}
+use Rattle.arithmetic_questions.proofs.OutputLaws.{output_refused, output_done}
 use Rattle.arithmetic_questions.proofs.ReportLaws.{report_refused, report_done}
 use Rattle.functions_kronecker32.proofs.kron_sum.Statement.{statement}
 use Rattle.functions_kronecker32.proofs.kron_sum.Tie as tie
@@ -20,7 +20,7 @@ kron-sum-into-requires c κs =
     let (told, ask-kron-sum, s) : tie.After-enum-told × tie.After-ask-kron-sum × tie.Start = search in
     let a = s.args in
     let asked = ask-kron-sum.ask-kron-sum in
-    let f = kron-sum-fitting a.m a.n a.a.now a.p a.q a.b.now (length a.out.now) asked.result told.enum_told.given.1 asked.ensures in
+    let f = kron_sum_fitting a.m a.n a.a.now a.p a.q a.b.now (length a.out.now) asked.result told.enum_told.given.1 asked.ensures in
     omega arith
 
 returns : tie.Need-returns
@@ -40,7 +40,7 @@ returns-2 c =
     tie.After-done × tie.After-kron-sum-into × tie.After-enum-told × tie.After-ask-kron-sum × tie.Start = search in
     let a = s.args in
     let asked = ask-kron-sum.ask-kron-sum in
-    let R = output-done of_kron_sum (call a.m a.n a.a.now a.p a.q a.b.now (length a.out.now)) asked.result asked.ensures at_done.done.result.outcome a.out.now
+    let R = output_done of_kron_sum (call a.m a.n a.a.now a.p a.q a.b.now (length a.out.now)) asked.result asked.ensures at_done.done.result.outcome a.out.now
     0 (kron_sum_m binary32 a.m a.a.now a.p a.b.now) _ told.enum_told.given.1 at_done.done.ensures.0 kron-sum-into.kron-sum-into.ensures in
     (R, at_done.done.ensures.1 ∙ report_done _ nothing 0 (sym at_done.done.ensures.0 ∙ R.outcome))
 

@@ -5,7 +5,7 @@ use lib.Ieee.Bits.{to_bits-lt}
 use lib.Ieee.Positive.{num, den}
 use Rattle.arithmetic_floats.specs.Float.{halvings, Least, one}
 use Rattle.arithmetic_floats.proofs.Signs.{plain_magnitude}
-use Rattle.arithmetic_floats.proofs.Least.{Plain, none_above, exponent-ge, at-power, past-power, halvings_magnitude, halvings_least}
+use Rattle.arithmetic_floats.proofs.Least.{Plain, none_above, exponent_ge, at_power, past_power, halvings_magnitude, halvings_least}
 use Rattle.arithmetic_floats.proofs.float.halvings_of.Statement.{statement}
 use Rattle.arithmetic_floats.proofs.float.halvings_of.Tie as tie
 
@@ -36,7 +36,7 @@ sub-exponent : tie.Need-overflow-sub-exponent
 sub-exponent c =
     let left1 : tie.Else1 = search in
     let at-magnitude : tie.After-magnitude = search in
-    exponent-ge binary64 at-magnitude.magnitude.result (plain at-magnitude) (held at-magnitude) (over left1)
+    exponent_ge binary64 at-magnitude.magnitude.result (plain at-magnitude) (held at-magnitude) (over left1)
 
 add-result : tie.Need-overflow-add-result
 add-result c = let at-magnitude : tie.After-magnitude = search in omega (arith, to_bits-lt binary64 at-magnitude.magnitude.result (held at-magnitude))
@@ -53,12 +53,12 @@ returns c =
 returns-2 : tie.Need-returns-2
 returns-2 c =
     let (taken2, left1, at-magnitude, s) : tie.Then2 × tie.Else1 × tie.After-magnitude × tie.Start = search in
-    both s.args.norm _ (at-power binary64 at-magnitude.magnitude.result (plain at-magnitude) (held at-magnitude) (over left1) taken2.if2.taken ∙ ap halvings at-magnitude.magnitude.ensures.0 ∙ halvings_magnitude s.args.norm)
+    both s.args.norm _ (at_power binary64 at-magnitude.magnitude.result (plain at-magnitude) (held at-magnitude) (over left1) taken2.if2.taken ∙ ap halvings at-magnitude.magnitude.ensures.0 ∙ halvings_magnitude s.args.norm)
 
 returns-3 : tie.Need-returns-3
 returns-3 c =
     let (left2, left1, at-magnitude, s) : tie.Else2 × tie.Else1 × tie.After-magnitude × tie.Start = search in
-    both s.args.norm _ (past-power binary64 at-magnitude.magnitude.result (plain at-magnitude) (held at-magnitude) (over left1) left2.if2.left ∙ ap halvings at-magnitude.magnitude.ensures.0 ∙ halvings_magnitude s.args.norm)
+    both s.args.norm _ (past_power binary64 at-magnitude.magnitude.result (plain at-magnitude) (held at-magnitude) (over left1) left2.if2.left ∙ ap halvings at-magnitude.magnitude.ensures.0 ∙ halvings_magnitude s.args.norm)
 
 pub halvings-of-spec : {M : Type 1} → statement M
 halvings-of-spec =

@@ -5,7 +5,7 @@ use lib.Ieee.Bits.{of_bits-to_bits}
 use lib.Ieee.Compare.{differs_from_itself}
 use Rattle.arithmetic_floats.specs.Float.{magnitude, half_up, round_away}
 use Rattle.arithmetic_floats.proofs.Signs.{magnitude_number}
-use Rattle.arithmetic_floats.proofs.Whole.{round_large, round-plus, round-minus, equals_itself}
+use Rattle.arithmetic_floats.proofs.Whole.{round_large, round_plus, round_minus, equals_itself}
 use Rattle.arithmetic_floats.proofs.float.round.Statement.{statement}
 use Rattle.arithmetic_floats.proofs.float.round.Tie as tie
 
@@ -60,13 +60,13 @@ returns-2 : tie.Need-returns-2
 unfolding of_int
 returns-2 c =
     let (taken3, d, taken2, left1, s) : tie.Then3 × tie.After-half-up × tie.Then2 × tie.Else1 × tie.Start = search in
-    ap (λ (n : ℕ). round binary64 false n 1) (half d) ∙ round-plus binary64 s.args.x (held s) (number left1) (small taken2) taken3.if3.taken
+    ap (λ (n : ℕ). round binary64 false n 1) (half d) ∙ round_plus binary64 s.args.x (held s) (number left1) (small taken2) taken3.if3.taken
 
 returns-3 : tie.Need-returns-3
 unfolding of_int
 returns-3 c =
     let (left3, d, taken2, left1, s) : tie.Else3 × tie.After-half-up × tie.Then2 × tie.Else1 × tie.Start = search in
-    ap (λ (n : ℕ). neg (round binary64 false n 1)) (half d) ∙ round-minus binary64 s.args.x (held s) (number left1) (small taken2) left3.if3.left
+    ap (λ (n : ℕ). neg (round binary64 false n 1)) (half d) ∙ round_minus binary64 s.args.x (held s) (number left1) (small taken2) left3.if3.left
 
 returns-4 : tie.Need-returns-4
 returns-4 c =

@@ -1,7 +1,7 @@
 -- `root_bits` meets its contract, by the facts of `Aligned` at binary64. Assumes nothing.
 use Rattle.std.proofs.Common.{arith, rules}
 use lib.Ieee.{binary64}
-use Rattle.arithmetic_floats.proofs.Aligned.{z_ge, z_le, s_lt, s_le, r-lt, bits-lt, bits_are}
+use Rattle.arithmetic_floats.proofs.Aligned.{z_ge, z_le, s_lt, s_le, r_lt, bits_lt, bits_are}
 use Rattle.arithmetic_floats.proofs.root.root_bits.Statement.{statement}
 use Rattle.arithmetic_floats.proofs.root.root_bits.Tie as tie
 
@@ -28,7 +28,7 @@ add-result c =
     let root-digits : tie.After-root-digits = search in
     let s : tie.Start = search in
     let a = s.args in
-    omega (arith, r-lt binary64 a.significand a.exponent s.pre root-digits.root-digits.result root-digits.root-digits.ensures)
+    omega (arith, r_lt binary64 a.significand a.exponent s.pre root-digits.root-digits.result root-digits.root-digits.ensures)
 
 returns : tie.Need-returns
 returns c =
@@ -36,7 +36,7 @@ returns c =
     let s : tie.Start = search in
     let a = s.args in (
       bits_are binary64 a.significand a.exponent s.pre root-digits.root-digits.result root-digits.root-digits.ensures,
-      bits-lt binary64 a.significand a.exponent s.pre root-digits.root-digits.result root-digits.root-digits.ensures,
+      bits_lt binary64 a.significand a.exponent s.pre root-digits.root-digits.result root-digits.root-digits.ensures,
     )
 
 pub root-bits-spec : {M : Type 1} → statement M

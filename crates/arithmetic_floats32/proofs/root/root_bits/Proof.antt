@@ -1,7 +1,7 @@
 -- `root_bits` meets its contract, by the facts of `Aligned` at binary32. Assumes nothing.
 use Rattle.std.proofs.Common.{arith, rules}
 use lib.Ieee.{binary32}
-use Rattle.arithmetic_floats.proofs.Aligned.{z_ge, z_le, s_lt, s_le, r-lt, bits-lt, bits_are}
+use Rattle.arithmetic_floats.proofs.Aligned.{z_ge, z_le, s_lt, s_le, r_lt, bits_lt, bits_are}
 use Rattle.arithmetic_floats32.proofs.root.root_bits.Statement.{statement}
 use Rattle.arithmetic_floats32.proofs.root.root_bits.Tie as tie
 
@@ -10,14 +10,14 @@ add-result c =
     let root-digits : tie.After-root-digits = search in
     let s : tie.Start = search in
     let a = s.args in
-    omega (arith, r-lt binary32 a.significand a.exponent s.pre root-digits.root-digits.result root-digits.root-digits.ensures)
+    omega (arith, r_lt binary32 a.significand a.exponent s.pre root-digits.root-digits.result root-digits.root-digits.ensures)
 
 cast-result : tie.Need-overflow-cast-result
 cast-result c =
     let root-digits : tie.After-root-digits = search in
     let s : tie.Start = search in
     let a = s.args in
-    omega (arith, bits-lt binary32 a.significand a.exponent s.pre root-digits.root-digits.result root-digits.root-digits.ensures)
+    omega (arith, bits_lt binary32 a.significand a.exponent s.pre root-digits.root-digits.result root-digits.root-digits.ensures)
 
 returns : tie.Need-returns
 returns c =
@@ -25,7 +25,7 @@ returns c =
     let s : tie.Start = search in
     let a = s.args in (
       bits_are binary32 a.significand a.exponent s.pre root-digits.root-digits.result root-digits.root-digits.ensures,
-      bits-lt binary32 a.significand a.exponent s.pre root-digits.root-digits.result root-digits.root-digits.ensures,
+      bits_lt binary32 a.significand a.exponent s.pre root-digits.root-digits.result root-digits.root-digits.ensures,
     )
 
 pub root-bits-spec : {M : Type 1} → statement M

@@ -6,7 +6,7 @@ use lib.Ieee.Positive.{positive}
 use Rattle.arithmetic_floats.specs.Float.{+zero}
 use Rattle.arithmetic_floats.specs.Root.{sqrt_of, NearestRoot}
 use Rattle.arithmetic_floats.proofs.Closest.{sqrt_nearest}
-use Rattle.arithmetic_floats.proofs.Cases.{above_no_nan, low_no_nan, digits-pos, sqrt-low, sqrt-mid, sqrt_top, sqrt_zero, sqrt_below}
+use Rattle.arithmetic_floats.proofs.Cases.{above_no_nan, low_no_nan, digits_pos, sqrt_low, sqrt_mid, sqrt_top, sqrt_zero, sqrt_below}
 use Rattle.arithmetic_floats32.proofs.root.sqrt.Statement.{statement}
 use Rattle.arithmetic_floats32.proofs.root.sqrt.Tie as tie
 
@@ -23,7 +23,7 @@ root-bits-requires : tie.Need-root-bits-requires
 root-bits-requires c κs =
     let (taken2, taken1, s) : tie.Then2 × tie.Then1 × tie.Start = search in
     record {
-      q_pos = digits-pos binary32 s.args.x (held s) (above taken1) taken2.if2.taken;
+      q_pos = digits_pos binary32 s.args.x (held s) (above taken1) taken2.if2.taken;
       q_lt = omega arith;
       e_lt = omega arith;
     }
@@ -35,12 +35,12 @@ both s r e = (e, λ p. subst (NearestRoot binary32 s.args.x) (sym e) (sqrt_neare
 returns : tie.Need-returns
 returns c =
     let (root-bits, taken2, taken1, s) : tie.After-root-bits × tie.Then2 × tie.Then1 × tie.Start = search in
-    both s _ (root-bits.root-bits.ensures.0 ∙ sym (sqrt-low binary32 s.args.x (held s) (above taken1) taken2.if2.taken))
+    both s _ (root-bits.root-bits.ensures.0 ∙ sym (sqrt_low binary32 s.args.x (held s) (above taken1) taken2.if2.taken))
 
 returns-2 : tie.Need-returns-2
 returns-2 c =
     let (root-bits2, taken3, taken1, s) : tie.After-root-bits2 × tie.Then3 × tie.Then1 × tie.Start = search in
-    both s _ (root-bits2.root-bits2.ensures.0 ∙ sym (sqrt-mid binary32 s.args.x (held s) (above taken1) (omega arith) taken3.if3.taken))
+    both s _ (root-bits2.root-bits2.ensures.0 ∙ sym (sqrt_mid binary32 s.args.x (held s) (above taken1) (omega arith) taken3.if3.taken))
 
 returns-3 : tie.Need-returns-3
 returns-3 c = let (left3, taken1, s) : tie.Else3 × tie.Then1 × tie.Start = search in both s _ (sqrt_top binary32 s.args.x (held s) (above taken1) left3.if3.left)

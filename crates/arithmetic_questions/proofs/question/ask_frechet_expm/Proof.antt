@@ -3,7 +3,7 @@ use borrow.Author.Rules.{rules}
 use mathlib.Core.Path.{sym, ◌∙◌}
 use mathlib.Core.List.{[], ◌∷◌}
 use Rattle.arithmetic_questions.specs.Questions.{Call, binary, of_frechet_expm, direction, without_exponent, anywhere, every_order}
-use Rattle.arithmetic_questions.proofs.QuestionLaws.{told, single, joined, all_yes, beside_shape, directed_shape, shape_no, shape_passed, numbers-directed}
+use Rattle.arithmetic_questions.proofs.QuestionLaws.{told, single, joined, all_yes, beside_shape, directed_shape, shape_no, shape_passed, numbers_directed}
 use Rattle.arithmetic_questions.proofs.question.ask_frechet_expm.Statement.{statement}
 use Rattle.arithmetic_questions.proofs.question.ask_frechet_expm.Tie as tie
 
@@ -42,7 +42,7 @@ returns-2 c =
     let call : Call = binary a.rows a.columns a.a.now a.height a.width a.e.now (a.first ∷ a.second ∷ []) a.room in
     shape_passed of_frechet_expm call shape.result shape.ensures enum_told.enum_told.given.1 first-no.first-no.result
     ((joined first-no.first-no.result (single entries.result entries.ensures) (single direction.result direction.ensures) first-no.first-no.ensures).asks
-    ∙ sym (numbers-directed call))
+    ∙ sym (numbers_directed call))
 
 pub ask-frechet-expm-spec : {M : Type 1} → statement M
 ask-frechet-expm-spec =

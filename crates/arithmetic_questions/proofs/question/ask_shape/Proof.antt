@@ -3,7 +3,7 @@ use borrow.Author.Rules.{rules}
 use native.Mathlib.Omega.{arith}
 use Rattle.arithmetic_floats.specs.Float.{+zero}
 use Rattle.arithmetic_questions.specs.Questions.{without_exponent, anywhere, every_order}
-use Rattle.arithmetic_questions.proofs.QuestionLaws.{told, stops, goes_on, all_yes, small_square, shape-alone}
+use Rattle.arithmetic_questions.proofs.QuestionLaws.{told, stops, goes_on, all_yes, small_square, shape_alone}
 use Rattle.arithmetic_questions.proofs.question.ask_shape.Statement.{statement}
 use Rattle.arithmetic_questions.proofs.question.ask_shape.Tie as tie
 
@@ -12,7 +12,7 @@ returns c =
     let (told2, ask, s) : tie.After-enum-told2 × tie.After-ask-matrix-order × tie.Start = search in
     let a = s.args in
     let order = ask.ask-matrix-order in
-    rw (shape-alone anywhere every_order a.rows a.columns a.a.now without_exponent +zero a.out a.room)
+    rw (shape_alone anywhere every_order a.rows a.columns a.a.now without_exponent +zero a.out a.room)
     (stops _ (told order.result order.ensures) told2.enum-told2.given.1).asks
 
 mul-ask-lengths : tie.Need-overflow-mul-ask-lengths
@@ -29,7 +29,7 @@ returns-2 c =
     let a = s.args in
     let order = ask.ask-matrix-order in
     let lengths = ask-lengths.ask-lengths in
-    rw (shape-alone anywhere every_order a.rows a.columns a.a.now without_exponent +zero a.out a.room)
+    rw (shape_alone anywhere every_order a.rows a.columns a.a.now without_exponent +zero a.out a.room)
     (goes_on (told order.result order.ensures) enum_told.enum_told.given.1 (told lengths.result lengths.ensures)).asks
 
 pub ask-shape-spec : {M : Type 1} → statement M

@@ -3,7 +3,7 @@ use borrow.Author.Rules.{rules}
 use mathlib.Core.List.{[], ◌∷◌}
 use Rattle.arithmetic_questions.specs.Result.{◌>>=◌, first_no}
 use Rattle.arithmetic_questions.specs.Questions.{unary, without_companion, without_exponent, anywhere, nonnegative, every_order}
-use Rattle.arithmetic_questions.proofs.QuestionLaws.{single, rest-no, rest-asked, accepted}
+use Rattle.arithmetic_questions.proofs.QuestionLaws.{single, rest_no, rest_asked, accepted}
 use Rattle.arithmetic_questions.proofs.question.ask_sqrtm.Statement.{statement}
 use Rattle.arithmetic_questions.proofs.question.ask_sqrtm.Tie as tie
 
@@ -12,7 +12,7 @@ returns c =
     let (told2, ask-matrix, s) : tie.After-enum-told2 × tie.After-ask-matrix × tie.Start = search in
     let a = s.args in
     let matrix = ask-matrix.ask-matrix in
-    rest-no without_companion without_exponent nonnegative every_order (unary a.rows a.columns a.a.now (a.out ∷ []) a.room) matrix.result matrix.ensures told2.enum-told2.given.1
+    rest_no without_companion without_exponent nonnegative every_order (unary a.rows a.columns a.a.now (a.out ∷ []) a.room) matrix.result matrix.ensures told2.enum-told2.given.1
 
 ask-nonnegative-requires : tie.Need-ask-nonnegative-requires
 ask-nonnegative-requires c κs =
@@ -27,7 +27,7 @@ returns-2 c =
     let (ask-nonnegative, told, ask-matrix, s) : tie.After-ask-nonnegative × tie.After-enum-told × tie.After-ask-matrix × tie.Start = search in
     let a = s.args in
     let matrix = ask-matrix.ask-matrix in
-    rest-asked without_companion without_exponent nonnegative every_order (unary a.rows a.columns a.a.now (a.out ∷ []) a.room) matrix.result matrix.ensures ask-nonnegative.ask-nonnegative.result told.enum_told.given.1
+    rest_asked without_companion without_exponent nonnegative every_order (unary a.rows a.columns a.a.now (a.out ∷ []) a.room) matrix.result matrix.ensures ask-nonnegative.ask-nonnegative.result told.enum_told.given.1
     (single ask-nonnegative.ask-nonnegative.result ask-nonnegative.ask-nonnegative.ensures).asks
 
 pub ask-sqrtm-spec : {M : Type 1} → statement M

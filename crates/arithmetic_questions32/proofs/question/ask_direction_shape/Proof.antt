@@ -1,7 +1,7 @@
 -- `ask_direction_shape` meets its contract. Assumes nothing.
 use Rattle.std.proofs.Common.{arith, rules}
 use Rattle.arithmetic_questions.specs.Questions.{anywhere, every_order}
-use Rattle.arithmetic_questions.proofs.QuestionLaws.{told, single, joined, stops, goes_on, all_yes, small_square, small-direction, shape-directed}
+use Rattle.arithmetic_questions.proofs.QuestionLaws.{told, single, joined, stops, goes_on, all_yes, small_square, small_direction, shape_directed}
 use Rattle.arithmetic_questions32.proofs.question.ask_direction_shape.Statement.{statement}
 use Rattle.arithmetic_questions32.proofs.question.ask_direction_shape.Tie as tie
 
@@ -10,7 +10,7 @@ returns c =
     let (told2, ask, s) : tie.After-enum-told2 × tie.After-ask-direction-order × tie.Start = search in
     let a = s.args in
     let order = ask.ask-direction-order in
-    rw (shape-directed anywhere every_order a.rows a.columns a.a.now a.height a.width a.e.now a.first a.second a.room)
+    rw (shape_directed anywhere every_order a.rows a.columns a.a.now a.height a.width a.e.now a.first a.second a.room)
     (stops _ (told order.result order.ensures) told2.enum-told2.given.1).asks
 
 mul-ask-length : tie.Need-overflow-mul-ask-length
@@ -27,7 +27,7 @@ mul-ask-length-2 c =
     let a = s.args in
     let order = ask.ask-direction-order in
     let e = all_yes (told order.result order.ensures) enum_told.enum_told.given.1 in
-    omega (arith, (small-direction a.rows a.height a.width e.1.1.0 e.1.1.1.0).2)
+    omega (arith, (small_direction a.rows a.height a.width e.1.1.0 e.1.1.1.0).2)
 
 mul-ask-lengths : tie.Need-overflow-mul-ask-lengths
 mul-ask-lengths c = let enum_told : tie.After-enum-told = search in mul-ask-length enum_told
@@ -43,7 +43,7 @@ returns-2 c =
     let companion = ask-length2.ask-length2 in
     let inputs = first-no.first-no in
     let outputs = ask-lengths.ask-lengths in
-    rw (shape-directed anywhere every_order a.rows a.columns a.a.now a.height a.width a.e.now a.first a.second a.room)
+    rw (shape_directed anywhere every_order a.rows a.columns a.a.now a.height a.width a.e.now a.first a.second a.room)
     (goes_on (told order.result order.ensures) enum_told.enum_told.given.1
     (joined first-no2.first-no2.result
     (joined inputs.result (single matrix.result matrix.ensures) (single companion.result companion.ensures) inputs.ensures)

@@ -2,7 +2,7 @@
 use Rattle.std.proofs.Common.{[], ◌∷◌, rules}
 use Rattle.arithmetic_questions.specs.Result.{◌>>=◌, first_no}
 use Rattle.arithmetic_questions.specs.Questions.{unary, without_companion, without_exponent, anywhere, orders_from_two}
-use Rattle.arithmetic_questions.proofs.QuestionLaws.{single, rest-no, rest-asked}
+use Rattle.arithmetic_questions.proofs.QuestionLaws.{single, rest_no, rest_asked}
 use Rattle.arithmetic_questions32.proofs.question.ask_expm.Statement.{statement}
 use Rattle.arithmetic_questions32.proofs.question.ask_expm.Tie as tie
 
@@ -11,7 +11,7 @@ returns c =
     let (told2, ask-matrix, s) : tie.After-enum-told2 × tie.After-ask-matrix × tie.Start = search in
     let a = s.args in
     let matrix = ask-matrix.ask-matrix in
-    rest-no without_companion without_exponent anywhere orders_from_two (unary a.rows a.columns a.a.now (a.out ∷ []) a.room) matrix.result matrix.ensures told2.enum-told2.given.1
+    rest_no without_companion without_exponent anywhere orders_from_two (unary a.rows a.columns a.a.now (a.out ∷ []) a.room) matrix.result matrix.ensures told2.enum-told2.given.1
 
 returns-2 : tie.Need-returns-2
 unfolding first_no ◌>>=◌
@@ -19,7 +19,7 @@ returns-2 c =
     let (ask-from-two, told, ask-matrix, s) : tie.After-ask-from-two × tie.After-enum-told × tie.After-ask-matrix × tie.Start = search in
     let a = s.args in
     let matrix = ask-matrix.ask-matrix in
-    rest-asked without_companion without_exponent anywhere orders_from_two (unary a.rows a.columns a.a.now (a.out ∷ []) a.room) matrix.result matrix.ensures ask-from-two.ask-from-two.result told.enum_told.given.1
+    rest_asked without_companion without_exponent anywhere orders_from_two (unary a.rows a.columns a.a.now (a.out ∷ []) a.room) matrix.result matrix.ensures ask-from-two.ask-from-two.result told.enum_told.given.1
     (single ask-from-two.ask-from-two.result ask-from-two.ask-from-two.ensures).asks
 
 pub ask-expm-spec : {M : Type 1} → statement M

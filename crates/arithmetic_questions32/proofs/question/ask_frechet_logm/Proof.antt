@@ -2,7 +2,7 @@
 use Rattle.std.proofs.Common.{[], ◌∷◌, rules}
 use Rattle.arithmetic_questions.specs.Result.{◌>>=◌, first_no}
 use Rattle.arithmetic_questions.specs.Questions.{binary, direction, without_exponent, anywhere, positive, orders_from_two, every_order}
-use Rattle.arithmetic_questions.proofs.QuestionLaws.{rest-no, rest-asked, accepted-directed}
+use Rattle.arithmetic_questions.proofs.QuestionLaws.{rest_no, rest_asked, accepted_directed}
 use Rattle.arithmetic_questions32.proofs.question.ask_frechet_logm.Statement.{statement}
 use Rattle.arithmetic_questions32.proofs.question.ask_frechet_logm.Tie as tie
 
@@ -11,7 +11,7 @@ returns c =
     let (told2, ask, s) : tie.After-enum-told2 × tie.After-ask-frechet-expm × tie.Start = search in
     let a = s.args in
     let both = ask.ask-frechet-expm in
-    rest-no direction without_exponent positive orders_from_two (binary a.rows a.columns a.a.now a.height a.width a.e.now (a.first ∷ a.second ∷ []) a.room) both.result both.ensures
+    rest_no direction without_exponent positive orders_from_two (binary a.rows a.columns a.a.now a.height a.width a.e.now (a.first ∷ a.second ∷ []) a.room) both.result both.ensures
     told2.enum-told2.given.1
 
 ask-logarithm-requires : tie.Need-ask-logarithm-requires
@@ -19,7 +19,7 @@ ask-logarithm-requires c κs =
     let (told, ask, s) : tie.After-enum-told × tie.After-ask-frechet-expm × tie.Start = search in
     let a = s.args in
     let both = ask.ask-frechet-expm in
-    (accepted-directed without_exponent anywhere every_order (binary a.rows a.columns a.a.now a.height a.width a.e.now (a.first ∷ a.second ∷ []) a.room) both.result both.ensures
+    (accepted_directed without_exponent anywhere every_order (binary a.rows a.columns a.a.now a.height a.width a.e.now (a.first ∷ a.second ∷ []) a.room) both.result both.ensures
     told.enum_told.given.1).0.shape.some
 
 returns-2 : tie.Need-returns-2
@@ -28,7 +28,7 @@ returns-2 c =
     let (ask-logarithm, told, ask, s) : tie.After-ask-logarithm × tie.After-enum-told × tie.After-ask-frechet-expm × tie.Start = search in
     let a = s.args in
     let both = ask.ask-frechet-expm in
-    rest-asked direction without_exponent positive orders_from_two (binary a.rows a.columns a.a.now a.height a.width a.e.now (a.first ∷ a.second ∷ []) a.room) both.result both.ensures ask-logarithm.ask-logarithm.result
+    rest_asked direction without_exponent positive orders_from_two (binary a.rows a.columns a.a.now a.height a.width a.e.now (a.first ∷ a.second ∷ []) a.room) both.result both.ensures ask-logarithm.ask-logarithm.result
     told.enum_told.given.1 ask-logarithm.ask-logarithm.ensures
 
 pub ask-frechet-logm-spec : {M : Type 1} → statement M

@@ -2,7 +2,7 @@
 use Rattle.std.proofs.Common.{[], ◌∷◌, rules}
 use Rattle.arithmetic_questions.specs.Result.{◌>>=◌, first_no}
 use Rattle.arithmetic_questions.specs.Questions.{powered, asked, without_companion, with_exponent, anywhere, orders_from_two}
-use Rattle.arithmetic_questions.proofs.QuestionLaws.{single, rest-no, rest-asked, joined}
+use Rattle.arithmetic_questions.proofs.QuestionLaws.{single, rest_no, rest_asked, joined}
 use Rattle.arithmetic_questions32.proofs.question.ask_powm.Statement.{statement}
 use Rattle.arithmetic_questions32.proofs.question.ask_powm.Tie as tie
 
@@ -12,7 +12,7 @@ returns c =
     let (told2, ask-matrix, s) : tie.After-enum-told2 × tie.After-ask-matrix × tie.Start = search in
     let a = s.args in
     let matrix = ask-matrix.ask-matrix in
-    rest-no without_companion with_exponent anywhere orders_from_two (powered a.rows a.columns a.a.now a.p (a.out ∷ []) a.room) matrix.result matrix.ensures told2.enum-told2.given.1
+    rest_no without_companion with_exponent anywhere orders_from_two (powered a.rows a.columns a.a.now a.p (a.out ∷ []) a.room) matrix.result matrix.ensures told2.enum-told2.given.1
 
 returns-2 : tie.Need-returns-2
 unfolding first_no ◌>>=◌ asked
@@ -23,7 +23,7 @@ returns-2 c =
     let matrix = ask-matrix.ask-matrix in
     let exponent = ask-exponent.ask-exponent in
     let two = ask-from-two.ask-from-two in
-    rest-asked without_companion with_exponent anywhere orders_from_two (powered a.rows a.columns a.a.now a.p (a.out ∷ []) a.room) matrix.result matrix.ensures first-no.first-no.result
+    rest_asked without_companion with_exponent anywhere orders_from_two (powered a.rows a.columns a.a.now a.p (a.out ∷ []) a.room) matrix.result matrix.ensures first-no.first-no.result
     told.enum_told.given.1
     (joined first-no.first-no.result (single exponent.result exponent.ensures) (single two.result two.ensures) first-no.first-no.ensures).asks
 

@@ -1,5 +1,5 @@
 -- `halvings_for` meets its contract. Assumes nothing.
-use Rattle.functions_definitions.proofs.HalvingLaws.{passed_finite, norm_refused, halvings-refused, halvings-passed}
+use Rattle.functions_definitions.proofs.HalvingLaws.{passed_finite, norm_refused, halvings_refused, halvings_passed}
 use borrow.Author.Rules.{rules}
 use Rattle.functions_exponential32.proofs.halvings.halvings_for.Statement.{statement}
 use Rattle.functions_exponential32.proofs.halvings.halvings_for.Tie as tie
@@ -20,7 +20,7 @@ returns-2 c =
     tie.After-why2 × tie.After-ask-halvings × tie.After-halvings-of × tie.After-enum-told × tie.After-ask-norm × tie.Start = search in
     let q = norm.ask-norm in
     let r = limit.ask-halvings in
-    halvings-refused s.args.norm q.result q.ensures told.enum_told.given.1 _ count.halvings-of.ensures.0 r.result r.ensures _ why2.why2.given.1
+    halvings_refused s.args.norm q.result q.ensures told.enum_told.given.1 _ count.halvings-of.ensures.0 r.result r.ensures _ why2.why2.given.1
 
 returns-3 : tie.Need-returns-3
 returns-3 c =
@@ -28,7 +28,7 @@ returns-3 c =
     tie.After-enum-told2 × tie.After-ask-halvings × tie.After-halvings-of × tie.After-enum-told × tie.After-ask-norm × tie.Start = search in
     let q = norm.ask-norm in
     let r = limit.ask-halvings in
-    halvings-passed s.args.norm q.result q.ensures told.enum_told.given.1 _ count.halvings-of.ensures.0 r.result r.ensures told2.enum-told2.given.1
+    halvings_passed s.args.norm q.result q.ensures told.enum_told.given.1 _ count.halvings-of.ensures.0 r.result r.ensures told2.enum-told2.given.1
 
 pub halvings-for-spec : {M : Type 1} → statement M
 halvings-for-spec =

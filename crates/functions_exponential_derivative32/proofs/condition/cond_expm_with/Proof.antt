@@ -6,7 +6,7 @@ use lib.ListN.{length}
 use lib.Ieee.{binary32}
 use Rattle.arithmetic_questions.specs.Questions.{unary, without_exponent, anywhere, every_order, of_cond_expm}
 use Rattle.arithmetic_questions.proofs.QuestionLaws.{accepted}
-use Rattle.arithmetic_questions.proofs.AnswerLaws.{workspace-no}
+use Rattle.arithmetic_questions.proofs.AnswerLaws.{workspace_no}
 use Rattle.arithmetic_questions.proofs.OutputLaws.{kept_where}
 use Rattle.functions_definitions.specs.Derivatives.{cond_exp_m}
 use Rattle.functions_definitions.specs.Calls.{cond_expm}
@@ -49,7 +49,7 @@ returns c =
     let C = condition_refused of_cond_expm call asked.result asked.ensures x r.result.outcome _ _ t r.ensures.0 r.ensures.1.0 in (
       C,
       (
-        kept_where a.clears (cond_expm binary32 a.rows a.columns a.a.now (length a.w.now)) a.w.now (sym (workspace-no of_cond_expm call x asked.result asked.ensures _ t a.w.now)),
+        kept_where a.clears (cond_expm binary32 a.rows a.columns a.a.now (length a.w.now)) a.w.now (sym (workspace_no of_cond_expm call x asked.result asked.ensures _ t a.w.now)),
         report_refused _ (cond_exp_report binary32 a.rows a.a.now) r.result.report r.result.outcome why.why.given.0.0 C.outcome r.ensures.0 r.ensures.1.1,
       ),
     )

@@ -4,7 +4,7 @@ use native.Mathlib.Omega.{arith}
 use lib.ListN.{length}
 use lib.Ieee.{binary32}
 use Rattle.arithmetic_questions.specs.Questions.{binary, without_exponent, anywhere, every_order, of_frechet_expm}
-use Rattle.arithmetic_questions.proofs.QuestionLaws.{accepted-directed}
+use Rattle.arithmetic_questions.proofs.QuestionLaws.{accepted_directed}
 use Rattle.arithmetic_questions.proofs.BothLaws.{two_refused}
 use Rattle.functions_definitions.specs.Derivatives.{frechet_exp_m}
 use Rattle.functions_definitions.specs.Calls.{frechet_expm}
@@ -23,7 +23,7 @@ frechet-expm-in-requires c κs =
     let a = start.args in
     let asked = ask.ask-frechet-expm in
     let call = binary a.rows a.columns a.a.now a.height a.width a.e.now (length a.first.now ∷ length a.second.now ∷ []) (length a.w.now) in
-    let (m, d) = accepted-directed without_exponent anywhere every_order call asked.result asked.ensures told.enum_told.given.1 in
+    let (m, d) = accepted_directed without_exponent anywhere every_order call asked.result asked.ensures told.enum_told.given.1 in
     let s = m.shape in
     (record { order = omega (arith, s.small); space = s.room }, (s.small, s.long, d.shape.long, s.outputs.0, s.outputs.1.0))
 
@@ -33,7 +33,7 @@ clear-where-requires c κs =
     let a = s.args in
     let asked = ask.ask-frechet-expm in
     let call = binary a.rows a.columns a.a.now a.height a.width a.e.now (length a.first.now ∷ length a.second.now ∷ []) (length a.w.now) in
-    let (m, d) = accepted-directed without_exponent anywhere every_order call asked.result asked.ensures told.enum_told.given.1 in
+    let (m, d) = accepted_directed without_exponent anywhere every_order call asked.result asked.ensures told.enum_told.given.1 in
     omega (arith, m.shape.room, frechet-expm-in.frechet-expm-in.ensures.0.only.long)
 
 returns : tie.Need-returns
@@ -61,7 +61,7 @@ returns-2 c =
     let asked = ask.ask-frechet-expm in
     let call = binary a.rows a.columns a.a.now a.height a.width a.e.now (length a.first.now ∷ length a.second.now ∷ []) (length a.w.now) in
     let told = enum_told.enum_told.given.1 in
-    let (m, d) = accepted-directed without_exponent anywhere every_order call asked.result asked.ensures told in
+    let (m, d) = accepted_directed without_exponent anywhere every_order call asked.result asked.ensures told in
     let x = frechet_exp_m binary32 a.rows a.a.now a.e.now in
     let f = frechet-expm-in.frechet-expm-in in
     let clear1 = clear-where.clear-where in (

@@ -5,7 +5,7 @@ use Rattle.arithmetic_matrices.specs.Workspace.{slot}
 use Rattle.arithmetic_questions.proofs.ReportLaws.{report_refused, steps_few}
 use Rattle.functions_definitions.specs.Reports.{frechet_log_report}
 use Rattle.functions_definitions.proofs.StepLaws.{log_few}
-use Rattle.functions_logarithms.proofs.LogDerivativeLaws.{frechet-follows, frechet_reported, frechet-refused}
+use Rattle.functions_logarithms.proofs.LogDerivativeLaws.{frechet_follows, frechet_reported, frechet_refused}
 use borrow.Author.Rules.{rules}
 use Rattle.functions_logarithms.proofs.log_derivative.frechet_logm_in.Statement.{statement}
 use Rattle.functions_logarithms.proofs.log_derivative.frechet_logm_in.Tie as tie
@@ -23,7 +23,7 @@ returns c =
     let d = second.second-logarithm in
     let b = beside.beside in
     let r = answering.answering in (
-      rw r.ensures.0 (frechet-follows binary64 s.args.n s.args.w.now s.pre copy.copy.last.0 l.last.0 l.result.outcome copy.copy.ensures l.ensures.0 told.enum_told.given.0.0 d.result.outcome d.last.0 told.enum_told.given.1 d.ensures.0),
+      rw r.ensures.0 (frechet_follows binary64 s.args.n s.args.w.now s.pre copy.copy.last.0 l.last.0 l.result.outcome copy.copy.ensures l.ensures.0 told.enum_told.given.0.0 d.result.outcome d.last.0 told.enum_told.given.1 d.ensures.0),
       frechet_reported binary64 s.args.n s.args.w.now s.pre copy.copy.last.0 l.last.0 l.result.outcome copy.copy.ensures l.ensures.0 told.enum_told.given.0.0 d.result.outcome d.last.0
           l.result.report d.result.report b.result r.result.report told.enum_told.given.1 d.ensures.0 l.ensures.1 d.ensures.1 b.ensures r.ensures.1,
     )
@@ -36,7 +36,7 @@ returns-2 c =
     let l = logm-in.logm-in in
     let no = refused.refused in
     let why = outcome.outcome.given.0.0 in
-    let S = frechet-refused binary64 n w s.pre copy.copy.last.0 l.last.0 l.result.outcome copy.copy.ensures l.ensures.0 why no.result.outcome outcome.outcome.given.1 no.ensures.0 in
+    let S = frechet_refused binary64 n w s.pre copy.copy.last.0 l.last.0 l.result.outcome copy.copy.ensures l.ensures.0 why no.result.outcome outcome.outcome.given.1 no.ensures.0 in
     (S, report_refused _ (frechet_log_report binary64 n (slot n w 0) (slot n w 4)) no.result.report no.result.outcome why S.outcome no.ensures.0 no.ensures.1)
 
 pub frechet-logm-in-spec : {M : Type 1} → statement M

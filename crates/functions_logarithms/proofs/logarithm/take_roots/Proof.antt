@@ -4,7 +4,7 @@ use native.Mathlib.Omega.{arith}
 use lib.Ieee.{binary64}
 use borrow.Author.Rules.{rules}
 use Rattle.arithmetic_matrices.proofs.Slots.{room_kept}
-use Rattle.functions_logarithms.proofs.LogarithmLaws.{Rooting, rooting_start, rooting-more, rooting-stops, rooting-fails, rooting_out, out_fits}
+use Rattle.functions_logarithms.proofs.LogarithmLaws.{Rooting, rooting_start, rooting_more, rooting_stops, rooting_fails, rooting_out, out_fits}
 use Rattle.functions_logarithms.proofs.logarithm.take_roots.Statement.{statement}
 use Rattle.functions_logarithms.proofs.logarithm.take_roots.Tie as tie
 
@@ -23,6 +23,6 @@ pub take-roots-spec : {M : Type 1} → statement M
 take-roots-spec =
     tie.close
     (tie.spec invariant-loop decreases-loop (λ c κs. search rules) (λ c. search rooting_start) (λ c κs. search room_kept) beside-requires
-    (λ c. search rules) (λ c. search rules) (λ c. search rules) (λ c. search rooting-stops) (λ c. search rules)
-    (λ c. search rules) (λ c. search rooting-fails) (λ c. search rules) (λ c. search rules) (λ c. search rooting-more)
+    (λ c. search rules) (λ c. search rules) (λ c. search rules) (λ c. search rooting_stops) (λ c. search rules)
+    (λ c. search rules) (λ c. search rooting_fails) (λ c. search rules) (λ c. search rules) (λ c. search rooting_more)
     (λ c κs. search room_kept) (λ c κs. search rules) (λ c κs. search out_fits) (λ c. search rules) (λ c. search rooting_out))

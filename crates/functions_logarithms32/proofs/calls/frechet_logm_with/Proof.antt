@@ -5,7 +5,7 @@ use lib.ListN.{length}
 use lib.Ieee.{binary32}
 use Rattle.arithmetic_questions.specs.Questions.{Call, binary, without_exponent, positive, orders_from_two, of_frechet_logm}
 use Rattle.arithmetic_matrices.proofs.MatrixLaws.{square_le}
-use Rattle.arithmetic_questions.proofs.QuestionLaws.{Accepted, AcceptedDirection, accepted-directed}
+use Rattle.arithmetic_questions.proofs.QuestionLaws.{Accepted, AcceptedDirection, accepted_directed}
 use Rattle.arithmetic_questions.proofs.BothLaws.{two_refused, two_done}
 use Rattle.arithmetic_questions.proofs.ReportLaws.{report_refused, report_delivered_both}
 use Rattle.functions_definitions.specs.Derivatives.{frechet_log_m}
@@ -26,7 +26,7 @@ call s =
 passed : (told : tie.After-enum-told) → let s : tie.Start = search in Accepted (call s) × AcceptedDirection (call s)
 passed told =
     let (ask, s) : tie.After-ask-frechet-logm × tie.Start = search in
-    accepted-directed without_exponent positive orders_from_two (call s) ask.ask-frechet-logm.result ask.ask-frechet-logm.ensures told.enum_told.given.1
+    accepted_directed without_exponent positive orders_from_two (call s) ask.ask-frechet-logm.result ask.ask-frechet-logm.ensures told.enum_told.given.1
 
 copy-in-requires : tie.Need-copy-in-requires
 copy-in-requires c κs =

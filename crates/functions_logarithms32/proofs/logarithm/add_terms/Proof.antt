@@ -9,7 +9,7 @@ use Rattle.arithmetic_matrices.proofs.Slots.{room_kept}
 use Rattle.functions_definitions.specs.Logarithm.{series_step}
 use Rattle.functions_roots.specs.Kernels.{tested, OnePass}
 use Rattle.functions_roots.specs.declared.pass.Pass.TheVariants.{Running, Stopped}
-use Rattle.functions_roots.proofs.PassLaws.{Passing, passing_start, passing-more, passing-stops, passing-counted, passing_out, passing_counted_out}
+use Rattle.functions_roots.proofs.PassLaws.{Passing, passing_start, passing_more, passing_stops, passing_counted, passing_out, passing_counted_out}
 use Rattle.functions_logarithms.specs.Kernels.{series_in}
 use Rattle.functions_logarithms.proofs.LogarithmLaws.{summing, term_same, terms_added}
 use Rattle.functions_logarithms32.proofs.logarithm.add_terms.Statement.{statement}
@@ -35,14 +35,14 @@ returns c =
     tie.After-iterated invariant-loop decreases-loop × tie.Then1 invariant-loop decreases-loop × tie.After-series-pass invariant-loop decreases-loop × tie.In-loop invariant-loop decreases-loop × tie.At-loop invariant-loop decreases-loop
     × tie.Start invariant-loop decreases-loop = search in
     let stopped = ap tested taken1.if1.taken in
-    terms_added binary32 s.args.n s.args.w.now s.pre Stopped _ iterated.iterated.result refl (passing-stops head.loop.inv turn.loop-test.taken (passed pass) stopped)
-    (iterated.iterated.ensures ∙ passing-counted head.loop.inv turn.loop-test.taken (passed pass) stopped)
+    terms_added binary32 s.args.n s.args.w.now s.pre Stopped _ iterated.iterated.result refl (passing_stops head.loop.inv turn.loop-test.taken (passed pass) stopped)
+    (iterated.iterated.ensures ∙ passing_counted head.loop.inv turn.loop-test.taken (passed pass) stopped)
 
 loop-again : tie.Need-loop-preserved invariant-loop decreases-loop
 loop-again c =
     let (left1, pass, turn, head) :
     tie.Else1 invariant-loop decreases-loop × tie.After-series-pass invariant-loop decreases-loop × tie.In-loop invariant-loop decreases-loop × tie.At-loop invariant-loop decreases-loop = search in
-    passing-more head.loop.inv turn.loop-test.taken (passed pass) (ap tested left1.if1.left)
+    passing_more head.loop.inv turn.loop-test.taken (passed pass) (ap tested left1.if1.left)
 
 returns-2 : tie.Need-returns-2 invariant-loop decreases-loop
 returns-2 c =

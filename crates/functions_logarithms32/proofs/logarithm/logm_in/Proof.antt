@@ -8,7 +8,7 @@ use Rattle.arithmetic_questions.proofs.ReportLaws.{report_done, report_refused, 
 use Rattle.functions_definitions.specs.Reports.{log_report}
 use Rattle.functions_definitions.proofs.StepLaws.{roots_few, series_few}
 use Rattle.functions_logarithms.specs.Kernels.{count_of}
-use Rattle.functions_logarithms.proofs.LogarithmLaws.{logarithm-done, logarithm-reported, logarithm-refused}
+use Rattle.functions_logarithms.proofs.LogarithmLaws.{logarithm_done, logarithm_reported, logarithm_refused}
 use native.Mathlib.Omega.{arith}
 use borrow.Author.Rules.{rules}
 use Rattle.functions_logarithms32.proofs.logarithm.logm_in.Statement.{statement}
@@ -40,9 +40,9 @@ returns c =
     let t = take-roots.take-roots in
     let l = near-logarithm.near-logarithm in
     let k = roots.roots.given.0.0 in
-    let R = logarithm-done binary32 s.args.n s.args.w.now s.pre t.last.0 t.result t.ensures k l.last.0 l.result roots.roots.given.1 l.ensures in (
+    let R = logarithm_done binary32 s.args.n s.args.w.now s.pre t.last.0 t.result t.ensures k l.last.0 l.result roots.roots.given.1 l.ensures in (
       R,
-      logarithm-reported binary32 s.args.n s.args.w.now s.pre t.last.0 t.result t.ensures k l.last.0 l.result beside.beside.result roots.roots.given.1 l.ensures beside.beside.ensures
+      logarithm_reported binary32 s.args.n s.args.w.now s.pre t.last.0 t.result t.ensures k l.last.0 l.result beside.beside.result roots.roots.given.1 l.ensures beside.beside.ensures
           ∙ report_done _ _ 0 R.outcome,
     )
 
@@ -51,7 +51,7 @@ returns-2 c =
     let (refused, told, take-roots, s) : tie.After-refused × tie.After-enum-told × tie.After-take-roots × tie.Start = search in
     let t = take-roots.take-roots in
     let no = refused.refused in
-    let R = logarithm-refused binary32 s.args.n s.args.w.now s.pre t.last.0 t.result t.ensures no.result.outcome told.enum_told.given.1 no.ensures.0 in
+    let R = logarithm_refused binary32 s.args.n s.args.w.now s.pre t.last.0 t.result t.ensures no.result.outcome told.enum_told.given.1 no.ensures.0 in
     (R, report_refused _ (log_report binary32 s.args.n (slot s.args.n s.args.w.now 0)) no.result.report no.result.outcome NotConverged R.outcome no.ensures.0 no.ensures.1)
 
 pub logm-in-spec : {M : Type 1} → statement M

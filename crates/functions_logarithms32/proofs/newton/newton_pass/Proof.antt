@@ -1,6 +1,6 @@
 -- `newton_pass` meets its contract: a law for each outcome of LU. Assumes nothing.
 use lib.Ieee.{binary32}
-use Rattle.functions_logarithms.proofs.NewtonLaws.{newton-passed, newton-failed}
+use Rattle.functions_logarithms.proofs.NewtonLaws.{newton_passed, newton_failed}
 use borrow.Author.Rules.{rules}
 use Rattle.functions_logarithms32.proofs.newton.newton_pass.Statement.{statement}
 use Rattle.functions_logarithms32.proofs.newton.newton_pass.Tie as tie
@@ -11,7 +11,7 @@ returns c =
     tie.After-factored × tie.After-newton-mean × tie.After-enum-told × tie.After-divide-slot × tie.After-copy2 × tie.After-copy × tie.Start = search in
     let d = divide-slot.divide-slot in
     let rest = newton-mean.newton-mean in
-    newton-passed binary32 s.args.n s.args.w.now s.pre copy.copy.last.0 copy2.copy2.last.0 d.last.0 d.result.outcome copy.copy.ensures copy2.copy2.ensures d.ensures.0
+    newton_passed binary32 s.args.n s.args.w.now s.pre copy.copy.last.0 copy2.copy2.last.0 d.last.0 d.result.outcome copy.copy.ensures copy2.copy2.ensures d.ensures.0
     rest.last.0 rest.result d.result.smallest factored.factored.result told.enum_told.given.1 rest.ensures d.ensures.1 factored.factored.ensures
 
 returns-2 : tie.Need-returns-2
@@ -19,7 +19,7 @@ returns-2 c =
     let (nothing, told2, divide-slot, copy2, copy, s) :
     tie.After-nothing × tie.After-enum-told2 × tie.After-divide-slot × tie.After-copy2 × tie.After-copy × tie.Start = search in
     let d = divide-slot.divide-slot in
-    newton-failed binary32 s.args.n s.args.w.now s.pre copy.copy.last.0 copy2.copy2.last.0 d.last.0 d.result.outcome copy.copy.ensures copy2.copy2.ensures d.ensures.0
+    newton_failed binary32 s.args.n s.args.w.now s.pre copy.copy.last.0 copy2.copy2.last.0 d.last.0 d.result.outcome copy.copy.ensures copy2.copy2.ensures d.ensures.0
     told2.enum-told2.given.0.0 nothing.nothing.result told2.enum-told2.given.1 nothing.nothing.ensures
 
 pub newton-pass-spec : {M : Type 1} → statement M

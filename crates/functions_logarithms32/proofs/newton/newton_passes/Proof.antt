@@ -8,7 +8,7 @@ use Rattle.arithmetic_matrices.proofs.Slots.{room_kept}
 use Rattle.arithmetic_questions.proofs.ReportLaws.{same_steps}
 use Rattle.functions_definitions.specs.Reports.{lu_report}
 use Rattle.functions_definitions.specs.Roots.{newton_step}
-use Rattle.functions_roots.proofs.PassLaws.{Reporting, reporting_start, reporting-turn, reporting-stopped, reporting-failed, reporting_end, turn_fits, end_fits}
+use Rattle.functions_roots.proofs.PassLaws.{Reporting, reporting_start, reporting_turn, reporting_stopped, reporting_failed, reporting_end, turn_fits, end_fits}
 use Rattle.functions_logarithms.proofs.NewtonLaws.{root, used, newton_same}
 use Rattle.functions_logarithms32.proofs.newton.newton_passes.Statement.{statement}
 use Rattle.functions_logarithms32.proofs.newton.newton_passes.Tie as tie
@@ -30,6 +30,6 @@ newton-passes-spec =
     tie.close
     (tie.spec invariant-loop decreases-loop (λ c κs. search rules) (λ c. search reporting_start) (λ c κs. search room_kept) (λ c κs. search turn_fits)
     (λ c. search rules) (λ c. search rules) (λ c. search rules) (λ c κs. search rules) beside-requires-2 (λ c. search rules)
-    (λ c. search (reporting-stopped, newton_same)) (λ c. search rules) (λ c. search rules) (λ c. search (reporting-failed, newton_same))
-    (λ c. search rules) (λ c. search rules) (λ c. search (reporting-turn, newton_same)) (λ c κs. search rules) (λ c κs. search end_fits)
+    (λ c. search (reporting_stopped, newton_same)) (λ c. search rules) (λ c. search rules) (λ c. search (reporting_failed, newton_same))
+    (λ c. search rules) (λ c. search rules) (λ c. search (reporting_turn, newton_same)) (λ c κs. search rules) (λ c κs. search end_fits)
     (λ c. search rules) (λ c. search reporting_end))

@@ -4,7 +4,7 @@ use lib.Dec.{lit≤}
 use lib.Ieee.{binary64}
 use native.Mathlib.Omega.{arith}
 use Rattle.arithmetic_matrices.proofs.Slots.{room_kept}
-use Rattle.functions_powers.proofs.WholeLaws.{BitsDone, bits_start, bits-turn, bits-end}
+use Rattle.functions_powers.proofs.WholeLaws.{BitsDone, bits_start, bits_turn, bits_end}
 use Rattle.functions_powers.proofs.whole.multiply_bits.Statement.{statement}
 use Rattle.functions_powers.proofs.whole.multiply_bits.Tie as tie
 
@@ -25,7 +25,7 @@ square-requires c κs =
 loop-again : tie.Need-loop-preserved invariant-loop decreases-loop
 loop-again c =
     let (squared, bit, head, s) : tie.After-square invariant-loop decreases-loop × tie.After-multiply-bit invariant-loop decreases-loop × tie.At-loop invariant-loop decreases-loop × tie.Start invariant-loop decreases-loop = search in
-    bits-turn binary64 s.args.n s.args.w.now s.pre.0 head.loop.inv bit.multiply-bit.ensures squared.square.ensures
+    bits_turn binary64 s.args.n s.args.w.now s.pre.0 head.loop.inv bit.multiply-bit.ensures squared.square.ensures
 
 same_length : tie.Need-same-length invariant-loop decreases-loop
 same_length c =
@@ -35,7 +35,7 @@ same_length c =
 returns : tie.Need-returns invariant-loop decreases-loop
 returns c =
     let (bit, end, head, s) : tie.After-multiply-bit2 invariant-loop decreases-loop × tie.After-loop invariant-loop decreases-loop × tie.At-loop invariant-loop decreases-loop × tie.Start invariant-loop decreases-loop = search in
-    bits-end binary64 s.args.n s.args.w.now s.pre.0 head.loop.inv bit.multiply-bit2.ensures s.fits.e.fits end.loop-test.left
+    bits_end binary64 s.args.n s.args.w.now s.pre.0 head.loop.inv bit.multiply-bit2.ensures s.fits.e.fits end.loop-test.left
 
 pub multiply-bits-spec : {M : Type 1} → statement M
 multiply-bits-spec =

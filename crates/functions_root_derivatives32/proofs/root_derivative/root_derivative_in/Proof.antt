@@ -7,7 +7,7 @@ use Rattle.arithmetic_questions.specs.declared.answer.Refusal.TheVariants.{NotCo
 use Rattle.arithmetic_questions.proofs.ReportLaws.{report_done, report_refused, same_steps, steps_few}
 use Rattle.functions_definitions.specs.Reports.{root_with_derivative_report}
 use Rattle.functions_definitions.proofs.StepLaws.{root_few, derivative_few}
-use Rattle.functions_root_derivatives.proofs.RootDerivativeLaws.{root_refused_both, derivative-done, derivative-refused, derivative-reported}
+use Rattle.functions_root_derivatives.proofs.RootDerivativeLaws.{root_refused_both, derivative_done, derivative_refused, derivative_reported}
 use Rattle.functions_root_derivatives.specs.Kernels.{second_of}
 use borrow.Author.Rules.{rules}
 use Rattle.functions_root_derivatives32.proofs.root_derivative.root_derivative_in.Statement.{statement}
@@ -26,9 +26,9 @@ returns c =
     tie.After-beside × tie.Then1 × tie.After-derive-root × tie.After-enum-told × tie.After-sqrtm-in × tie.Start = search in
     let q = sqrtm-in.sqrtm-in in
     let d = derive-root.derive-root in
-    let B = derivative-done binary32 s.args.n (second_of s.args.transposed s.args.n) s.args.w.now s.pre.0 q.last.0 q.result.outcome q.ensures.0 told.enum_told.given.0.0 d.result.accepted d.last.0 told.enum_told.given.1 d.ensures.0 taken1.if1.taken in (
+    let B = derivative_done binary32 s.args.n (second_of s.args.transposed s.args.n) s.args.w.now s.pre.0 q.last.0 q.result.outcome q.ensures.0 told.enum_told.given.0.0 d.result.accepted d.last.0 told.enum_told.given.1 d.ensures.0 taken1.if1.taken in (
       B,
-      derivative-reported binary32 s.args.n (second_of s.args.transposed s.args.n) s.args.w.now s.pre.0 q.last.0 q.result.outcome q.ensures.0 told.enum_told.given.0.0 d.result.accepted d.last.0 told.enum_told.given.1 d.ensures.0
+      derivative_reported binary32 s.args.n (second_of s.args.transposed s.args.n) s.args.w.now s.pre.0 q.last.0 q.result.outcome q.ensures.0 told.enum_told.given.0.0 d.result.accepted d.last.0 told.enum_told.given.1 d.ensures.0
           q.result.report d.result.report beside.beside.result q.ensures.1 (d.ensures.1 taken1.if1.taken) beside.beside.ensures
           ∙ report_done _ _ 0 B.outcome,
     )
@@ -40,7 +40,7 @@ returns-2 c =
     let q = sqrtm-in.sqrtm-in in
     let d = derive-root.derive-root in
     let n = refused.refused in
-    let B = derivative-refused binary32 s.args.n (second_of s.args.transposed s.args.n) s.args.w.now s.pre.0 q.last.0 q.result.outcome q.ensures.0 told.enum_told.given.0.0 d.result.accepted d.last.0 told.enum_told.given.1 d.ensures.0
+    let B = derivative_refused binary32 s.args.n (second_of s.args.transposed s.args.n) s.args.w.now s.pre.0 q.last.0 q.result.outcome q.ensures.0 told.enum_told.given.0.0 d.result.accepted d.last.0 told.enum_told.given.1 d.ensures.0
     n.result.outcome left1.if1.left n.ensures.0 in
     (B, report_refused _ (root_with_derivative_report binary32 s.args.n (second_of s.args.transposed s.args.n) (slot s.args.n s.args.w.now 0)) n.result.report n.result.outcome NotConverged B.outcome n.ensures.0 n.ensures.1)
 

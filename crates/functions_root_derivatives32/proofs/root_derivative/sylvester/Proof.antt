@@ -2,7 +2,7 @@
 use mathlib.Core.Path.{sym}
 use mathlib.Core.Bool.{true≢false}
 use lib.Ieee.{binary32}
-use Rattle.functions_root_derivatives.proofs.RootDerivativeLaws.{sylvester-solved, sylvester-refused, sylvester-reported}
+use Rattle.functions_root_derivatives.proofs.RootDerivativeLaws.{sylvester_solved, sylvester_refused, sylvester_reported}
 use Rattle.functions_root_derivatives.specs.Kernels.{second_of}
 use borrow.Author.Rules.{rules}
 use Rattle.functions_root_derivatives32.proofs.root_derivative.sylvester.Statement.{statement}
@@ -13,9 +13,9 @@ returns c =
     let (factored, transpose2, told, solve-system, transpose, load-system, s) :
     tie.After-factored × tie.After-transpose2 × tie.After-enum-told × tie.After-solve-system × tie.After-transpose × tie.After-load-system × tie.Start = search in
     let q = solve-system.solve-system in (
-      sylvester-solved binary32 s.args.n (second_of s.args.transposed s.args.n) s.args.w.now s.pre.0 load-system.load-system.last.0 transpose.transpose.last.0 q.last.0 q.result.outcome s.pre.1.1
+      sylvester_solved binary32 s.args.n (second_of s.args.transposed s.args.n) s.args.w.now s.pre.0 load-system.load-system.last.0 transpose.transpose.last.0 q.last.0 q.result.outcome s.pre.1.1
           load-system.load-system.ensures transpose.transpose.ensures q.ensures.0 transpose2.transpose2.last.0 told.enum_told.given.1 transpose2.transpose2.ensures,
-      λ _. sylvester-reported binary32 s.args.n (second_of s.args.transposed s.args.n) s.args.w.now s.pre.0 load-system.load-system.last.0 transpose.transpose.last.0 q.last.0 q.result.outcome s.pre.1.1
+      λ _. sylvester_reported binary32 s.args.n (second_of s.args.transposed s.args.n) s.args.w.now s.pre.0 load-system.load-system.last.0 transpose.transpose.last.0 q.last.0 q.result.outcome s.pre.1.1
           load-system.load-system.ensures transpose.transpose.ensures q.ensures.0 q.result.smallest factored.factored.result q.ensures.1 factored.factored.ensures,
     )
 
@@ -24,7 +24,7 @@ returns-2 c =
     let (told2, solve-system, transpose, load-system, s) :
     tie.After-enum-told2 × tie.After-solve-system × tie.After-transpose × tie.After-load-system × tie.Start = search in
     let q = solve-system.solve-system in (
-      sylvester-refused binary32 s.args.n (second_of s.args.transposed s.args.n) s.args.w.now s.pre.0 load-system.load-system.last.0 transpose.transpose.last.0 q.last.0 q.result.outcome s.pre.1.1
+      sylvester_refused binary32 s.args.n (second_of s.args.transposed s.args.n) s.args.w.now s.pre.0 load-system.load-system.last.0 transpose.transpose.last.0 q.last.0 q.result.outcome s.pre.1.1
           load-system.load-system.ensures transpose.transpose.ensures q.ensures.0 told2.enum-told2.given.0.0 told2.enum-told2.given.1,
       λ e. absurd (true≢false (sym e)),
     )

@@ -5,7 +5,7 @@ use Rattle.arithmetic_matrices.specs.Workspace.{slot}
 use Rattle.arithmetic_questions.specs.declared.answer.Refusal.TheVariants.{NotConverged}
 use Rattle.arithmetic_questions.proofs.ReportLaws.{report_done, report_refused}
 use Rattle.functions_definitions.specs.Reports.{root_report}
-use Rattle.functions_roots.proofs.SquareRootLaws.{root_number, number_reported, root-answers, root-refused, root-reported}
+use Rattle.functions_roots.proofs.SquareRootLaws.{root_number, number_reported, root_answers, root_refused, root_reported}
 use borrow.Author.Rules.{rules}
 use Rattle.functions_roots.proofs.square_root.sqrtm_in.Statement.{statement}
 use Rattle.functions_roots.proofs.square_root.sqrtm_in.Tie as tie
@@ -24,9 +24,9 @@ returns-2 c =
     let p = root-passes.root-passes in
     let P = p.ensures in
     let e = sym answers.answers.ensures ∙ taken2.if2.taken in
-    let R = root-answers binary64 s.args.n s.args.w.now s.pre identity.identity.last.0 p.last.0 p.result.pass left1.if1.left identity.identity.ensures P.passed e in (
+    let R = root_answers binary64 s.args.n s.args.w.now s.pre identity.identity.last.0 p.last.0 p.result.pass left1.if1.left identity.identity.ensures P.passed e in (
       R,
-      root-reported binary64 s.args.n s.args.w.now s.pre identity.identity.last.0 p.last.0 p.result.pass left1.if1.left identity.identity.ensures P.passed p.result.report (P.reports.report e)
+      root_reported binary64 s.args.n s.args.w.now s.pre identity.identity.last.0 p.last.0 p.result.pass left1.if1.left identity.identity.ensures P.passed p.result.report (P.reports.report e)
           ∙ report_done _ _ 0 R.outcome,
     )
 
@@ -36,7 +36,7 @@ returns-3 c =
     tie.After-refused × tie.Else2 × tie.After-answers × tie.After-root-passes × tie.After-identity × tie.Else1 × tie.Start = search in
     let p = root-passes.root-passes in
     let q = refused.refused in
-    let R = root-refused binary64 s.args.n s.args.w.now s.pre identity.identity.last.0 p.last.0 p.result.pass left1.if1.left identity.identity.ensures p.ensures.passed
+    let R = root_refused binary64 s.args.n s.args.w.now s.pre identity.identity.last.0 p.last.0 p.result.pass left1.if1.left identity.identity.ensures p.ensures.passed
     q.result.outcome (sym answers.answers.ensures ∙ left2.if2.left) q.ensures.0 in
     (R, report_refused _ (root_report binary64 s.args.n (slot s.args.n s.args.w.now 0)) q.result.report q.result.outcome NotConverged R.outcome q.ensures.0 q.ensures.1)
 

@@ -3,7 +3,7 @@ use native.Mathlib.Omega.{arith}
 use lib.Ieee.{binary32}
 use Rattle.arithmetic_questions.proofs.ReportLaws.{same_steps}
 use Rattle.functions_roots.proofs.PassLaws.{failed_reports}
-use Rattle.functions_roots.proofs.SquareRootLaws.{root-passed, root-failed, pair-reported}
+use Rattle.functions_roots.proofs.SquareRootLaws.{root_passed, root_failed, pair_reported}
 use borrow.Author.Rules.{rules}
 use Rattle.functions_roots32.proofs.square_root.root_pass.Statement.{statement}
 use Rattle.functions_roots32.proofs.square_root.root_pass.Tie as tie
@@ -16,12 +16,12 @@ returns c =
     let rest = second-inverse.second-inverse in
     record {
       passed =
-          root-passed binary32 s.args.n s.args.w.now s.pre copy.copy.last.0 identity.identity.last.0 d.last.0 d.result.outcome copy.copy.ensures identity.identity.ensures d.ensures.0
+          root_passed binary32 s.args.n s.args.w.now s.pre copy.copy.last.0 identity.identity.last.0 d.last.0 d.result.outcome copy.copy.ensures identity.identity.ensures d.ensures.0
           rest.last.0 rest.result.pass told.enum_told.given.1 rest.ensures.0;
       reports = record {
         few = omega (arith, same_steps beside.beside.ensures, same_steps factored.factored.ensures, rest.ensures.1.few);
         report = λ e.
-            pair-reported binary32 s.args.n s.args.w.now s.pre copy.copy.last.0 identity.identity.last.0 d.last.0 d.result.outcome copy.copy.ensures identity.identity.ensures d.ensures.0
+            pair_reported binary32 s.args.n s.args.w.now s.pre copy.copy.last.0 identity.identity.last.0 d.last.0 d.result.outcome copy.copy.ensures identity.identity.ensures d.ensures.0
             d.result.smallest factored.factored.result rest.result.report beside.beside.result d.ensures.1 factored.factored.ensures (rest.ensures.1.report e) beside.beside.ensures;
       };
     }
@@ -33,7 +33,7 @@ returns-2 c =
     let d = divide-slot.divide-slot in
     record {
       passed =
-          root-failed binary32 s.args.n s.args.w.now s.pre copy.copy.last.0 identity.identity.last.0 d.last.0 d.result.outcome copy.copy.ensures identity.identity.ensures d.ensures.0
+          root_failed binary32 s.args.n s.args.w.now s.pre copy.copy.last.0 identity.identity.last.0 d.last.0 d.result.outcome copy.copy.ensures identity.identity.ensures d.ensures.0
           told2.enum-told2.given.0.0 told2.enum-told2.given.1;
       reports = failed_reports nothing.nothing.ensures;
     }

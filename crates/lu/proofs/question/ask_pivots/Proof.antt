@@ -6,7 +6,7 @@ use mathlib.Core.Path.{◌≡◌, refl, sym, ◌∙◌}
 use lib.ListN.{length, drop}
 use borrow.Author.Tests.{not-true, not-false}
 use Rattle.arithmetic_questions.specs.Questions.{pivots_from}
-use Rattle.lu.proofs.LuQuestionLaws.{pivots-more, pivots-stop, pivots_end}
+use Rattle.lu.proofs.LuQuestionLaws.{pivots_more, pivots_stop, pivots_end}
 use Rattle.lu.proofs.question.ask_pivots.Statement.{statement}
 use Rattle.lu.proofs.question.ask_pivots.Tie as tie
 
@@ -22,7 +22,7 @@ returns c =
     tie.Then1 invariant-loop decreases-loop × tie.After-names-row invariant-loop decreases-loop × tie.At-loop invariant-loop decreases-loop × tie.Start invariant-loop decreases-loop = search in
     let l = head.loop in
     let a = s.args in
-    sym (l.inv.1 ∙ pivots-stop a.n a.pivots.now l.k (omega arith) (sym names-row.names-row.ensures ∙ not-true _ taken1.if1.taken))
+    sym (l.inv.1 ∙ pivots_stop a.n a.pivots.now l.k (omega arith) (sym names-row.names-row.ensures ∙ not-true _ taken1.if1.taken))
 
 loop-again : tie.Need-loop-preserved invariant-loop decreases-loop
 loop-again c =
@@ -30,7 +30,7 @@ loop-again c =
     tie.Else1 invariant-loop decreases-loop × tie.After-names-row invariant-loop decreases-loop × tie.At-loop invariant-loop decreases-loop × tie.Start invariant-loop decreases-loop = search in
     let l = head.loop in
     let a = s.args in
-    (omega arith, l.inv.1 ∙ pivots-more a.n a.pivots.now l.k (omega arith) (sym names-row.names-row.ensures ∙ not-false _ left1.if1.left))
+    (omega arith, l.inv.1 ∙ pivots_more a.n a.pivots.now l.k (omega arith) (sym names-row.names-row.ensures ∙ not-false _ left1.if1.left))
 
 returns-2 : tie.Need-returns-2 invariant-loop decreases-loop
 returns-2 c =

@@ -4,7 +4,7 @@ use lib.Ieee.{binary32}
 use Rattle.arithmetic_questions.specs.Reports.{factored}
 use Rattle.arithmetic_questions.proofs.ReportLaws.{report_refused}
 use Rattle.lu_factoring.specs.Pivots.{smallest_pivot}
-use Rattle.lu.proofs.LuQuestionLaws.{compute-passed}
+use Rattle.lu.proofs.LuQuestionLaws.{compute_passed}
 use Rattle.lu.proofs.CallLaws.{compute_refused, compute_done, compute_report}
 use native.Mathlib.Omega.{arith}
 use borrow.Author.Rules.{rules}
@@ -16,7 +16,7 @@ compute-with-room-requires c κs =
     let (told, ask-compute, start) : tie.After-enum-told × tie.After-ask-compute × tie.Start = search in
     let asked = ask-compute.ask-compute in
     let a = start.args in
-    let s = compute-passed a.rows a.columns a.a.now a.pivots.now asked.result told.enum_told.given.1 (length a.factors.now) (length a.w.now) asked.ensures in
+    let s = compute_passed a.rows a.columns a.a.now a.pivots.now asked.result told.enum_told.given.1 (length a.factors.now) (length a.w.now) asked.ensures in
     (s.system.small, s.system.matrix, s.room, s.factors, s.system.pivots)
 
 clear-requires : tie.Need-clear-requires
@@ -24,7 +24,7 @@ clear-requires c κs =
     let (call, told, ask-compute, start) : tie.After-compute-with-room × tie.After-enum-told × tie.After-ask-compute × tie.Start = search in
     let asked = ask-compute.ask-compute in
     let a = start.args in
-    let s = compute-passed a.rows a.columns a.a.now a.pivots.now asked.result told.enum_told.given.1 (length a.factors.now) (length a.w.now) asked.ensures in
+    let s = compute_passed a.rows a.columns a.a.now a.pivots.now asked.result told.enum_told.given.1 (length a.factors.now) (length a.w.now) asked.ensures in
     omega (arith, s.room, call.compute-with-room.kept.1.1.1.1.0)
 
 answer-of-requires : tie.Need-answer-of-requires
@@ -32,7 +32,7 @@ answer-of-requires c κs =
     let (call, told, ask-compute, start) : tie.After-compute-with-room × tie.After-enum-told × tie.After-ask-compute × tie.Start = search in
     let asked = ask-compute.ask-compute in
     let a = start.args in
-    let s = compute-passed a.rows a.columns a.a.now a.pivots.now asked.result told.enum_told.given.1 (length a.factors.now) (length a.w.now) asked.ensures in
+    let s = compute_passed a.rows a.columns a.a.now a.pivots.now asked.result told.enum_told.given.1 (length a.factors.now) (length a.w.now) asked.ensures in
     omega (arith, call.compute-with-room.kept.1.1.0)
 
 returns : tie.Need-returns
@@ -50,7 +50,7 @@ returns-2 c =
     let asked = ask-compute.ask-compute in
     let a = start.args in
     let d = call.compute-with-room in
-    let s = compute-passed a.rows a.columns a.a.now a.pivots.now asked.result told.enum_told.given.1 (length a.factors.now) (length a.w.now) asked.ensures in
+    let s = compute_passed a.rows a.columns a.a.now a.pivots.now asked.result told.enum_told.given.1 (length a.factors.now) (length a.w.now) asked.ensures in
     let r = answer-of.answer-of in
     let R = compute_done binary32 a.rows a.columns a.a.now a.factors.now a.pivots.now a.w.now asked.result asked.ensures r.result.outcome
     d.last.1.1.0 d.last.1.1.1.0 d.last.1.1.1.1.0 clear.clear.last.0 d.result told.enum_told.given.1 s.room d.ensures clear.clear.ensures r.ensures.0 in

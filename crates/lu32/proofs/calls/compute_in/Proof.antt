@@ -1,6 +1,6 @@
 -- `compute_in` meets its contract: the arms of the match are told the outcome. Assumes nothing.
 use lib.Ieee.{binary32}
-use Rattle.lu.proofs.CallLaws.{computing-all, computing-none}
+use Rattle.lu.proofs.CallLaws.{computing_all, computing_none}
 use native.Mathlib.Nat.{mul-le-mul}
 use native.Mathlib.Omega.{arith}
 use borrow.Author.Rules.{rules}
@@ -19,7 +19,7 @@ returns c =
     let a = s.args in
     let d = call.factor-copy in
     let few = mul-le-mul s.pre.0 s.pre.0 in
-    computing-all binary32 a.n a.a.now a.w.now s.pre.1 (omega (arith, few, s.pre.2)) a.rows.now d.last.1.1.0 d.last.1.1.1.0 d.result d.ensures few
+    computing_all binary32 a.n a.a.now a.w.now s.pre.1 (omega (arith, few, s.pre.2)) a.rows.now d.last.1.1.0 d.last.1.1.1.0 d.result d.ensures few
     a.factors.now out.copy-out.last.1.1.0 a.pivots.now pivots.copy-pivots.last.0 told.enum_told.given.1 s.pre.3 s.pre.4 out.copy-out.ensures pivots.copy-pivots.ensures
 
 returns-2 : tie.Need-returns-2
@@ -28,7 +28,7 @@ returns-2 c =
     let a = s.args in
     let d = call.factor-copy in
     let few = mul-le-mul s.pre.0 s.pre.0 in
-    computing-none binary32 a.n a.a.now a.w.now s.pre.1 (omega (arith, few, s.pre.2)) a.rows.now d.last.1.1.0 d.last.1.1.1.0 d.result d.ensures few
+    computing_none binary32 a.n a.a.now a.w.now s.pre.1 (omega (arith, few, s.pre.2)) a.rows.now d.last.1.1.0 d.last.1.1.1.0 d.result d.ensures few
     a.factors.now a.pivots.now _ told.outcome.given.1
 
 pub compute-in-spec : {M : Type 1} → statement M

@@ -7,11 +7,11 @@ use Rattle.arithmetic_questions.specs.Result.{Result, done, outcome, exit}
 use Rattle.arithmetic_questions.specs.Answers.{reported}
 use Rattle.arithmetic_questions.specs.Questions.{answer, of_determinant}
 use Rattle.arithmetic_questions.specs.Reports.{nothing}
-use Rattle.arithmetic_questions.proofs.AnswerLaws.{answer_passed, outcome-no, exit-no}
+use Rattle.arithmetic_questions.proofs.AnswerLaws.{answer_passed, outcome_no, exit_no}
 use Rattle.arithmetic_questions.proofs.ReportLaws.{report_refused, report_done}
 use Rattle.lu_factoring.specs.Solve.{determinant_of}
 use Rattle.lu.specs.Calls.{determinant, determinant_call}
-use Rattle.lu.proofs.LuQuestionLaws.{determinant-passed}
+use Rattle.lu.proofs.LuQuestionLaws.{determinant_passed}
 use borrow.Author.Rules.{rules}
 use Rattle.lu32.proofs.calls.determinant.Statement.{statement}
 use Rattle.lu32.proofs.calls.determinant.Tie as tie
@@ -21,7 +21,7 @@ determinant-requires c κs =
     let (told, ask-determinant, start) : tie.After-enum-told × tie.After-ask-determinant × tie.Start = search in
     let a = start.args in
     let asked = ask-determinant.ask-determinant in
-    let s = (determinant-passed a.rows a.columns a.f.now a.pivots.now asked.result told.enum_told.given.1 asked.ensures).system in
+    let s = (determinant_passed a.rows a.columns a.f.now a.pivots.now asked.result told.enum_told.given.1 asked.ensures).system in
     (s.matrix, s.pivots)
 
 returns : tie.Need-returns
@@ -36,9 +36,9 @@ returns c =
     let v = valued.valued.ensures in
     let e = refused.refused.ensures in
     let o = ap reported v.0 ∙ e.0 in
-    let R = o ∙ sym (outcome-no of_determinant call r asked.result asked.ensures _ no) in (
+    let R = o ∙ sym (outcome_no of_determinant call r asked.result asked.ensures _ no) in (
       R,
-      (v.1 ∙ +zero_bits binary32 ∙ sym (exit-no of_determinant call r asked.result asked.ensures _ no (λ d. d) +zero), report_refused (answer of_determinant call r) nothing _ valued.valued.result.outcome why.why.given.0.0 R o (v.2 ∙ e.1)),
+      (v.1 ∙ +zero_bits binary32 ∙ sym (exit_no of_determinant call r asked.result asked.ensures _ no (λ d. d) +zero), report_refused (answer of_determinant call r) nothing _ valued.valued.result.outcome why.why.given.0.0 R o (v.2 ∙ e.1)),
     )
 
 returns-2 : tie.Need-returns-2

@@ -2,7 +2,7 @@
 use borrow.Author.Rules.{rules}
 use native.Mathlib.Omega.{arith}
 use Rattle.arithmetic_questions.proofs.QuestionLaws.{told, single, joined, stops, goes_on, all_yes}
-use Rattle.lu.proofs.LuQuestionLaws.{square64, compute-asked}
+use Rattle.lu.proofs.LuQuestionLaws.{square64, compute_asked}
 use Rattle.lu32.proofs.question.ask_compute.Statement.{statement}
 use Rattle.lu32.proofs.question.ask_compute.Tie as tie
 
@@ -11,7 +11,7 @@ returns c =
     let (told2, ask-system, s) : tie.After-enum-told2 × tie.After-ask-system × tie.Start = search in
     let a = s.args in
     let system = ask-system.ask-system in
-    rw (compute-asked a.rows a.columns a.a.now a.pivots.now a.factors a.room)
+    rw (compute_asked a.rows a.columns a.a.now a.pivots.now a.factors a.room)
     (stops _ (told system.result system.ensures) told2.enum-told2.given.1).asks
 
 mul-ask-length : tie.Need-overflow-mul-ask-length
@@ -30,7 +30,7 @@ returns-2 c =
     let system = ask-system.ask-system in
     let factors = ask-length.ask-length in
     let room = ask-room.ask-room in
-    rw (compute-asked a.rows a.columns a.a.now a.pivots.now a.factors a.room)
+    rw (compute_asked a.rows a.columns a.a.now a.pivots.now a.factors a.room)
     (goes_on (told system.result system.ensures) enum_told.enum_told.given.1
     (joined first-no.first-no.result (single factors.result factors.ensures) (single room.result room.ensures) first-no.first-no.ensures)).asks
 

@@ -2,7 +2,7 @@
 use Prim.Native.Nat.{◌-◌}
 use mathlib.Core.Logic.{⊎_elim}
 use borrow.Author.Rules.{rules}
-use Rattle.lu_factoring.proofs.LuLoop.{PivotSearch, pivot_start, pivot-new, pivot-kept, pivot_end}
+use Rattle.lu_factoring.proofs.LuLoop.{PivotSearch, pivot_start, pivot_new, pivot_kept, pivot_end}
 use Rattle.lu_factoring.proofs.factor.find_pivot.Statement.{statement}
 use Rattle.lu_factoring.proofs.factor.find_pivot.Tie as tie
 
@@ -20,7 +20,7 @@ loop-again c =
     let h = turn.loop-test.taken in
     let e = size.magnitude2.ensures.0 in
     let u = entry2.entry2.ensures in
-    ⊎_elim (λ w. pivot-new s h e u w.0.taken w.1 w.2) (λ w. pivot-kept s h e u w.0.left w.1 w.2) joined1.if1.came
+    ⊎_elim (λ w. pivot_new s h e u w.0.taken w.1 w.2) (λ w. pivot_kept s h e u w.0.left w.1 w.2) joined1.if1.came
 
 returns : tie.Need-returns invariant-loop decreases-loop
 returns c =

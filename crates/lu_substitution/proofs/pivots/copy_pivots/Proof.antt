@@ -4,7 +4,7 @@ use mathlib.Core.Path.{◌≡◌, refl, ◌∙◌}
 use lib.ListN.{length, get_or, length-set}
 use Rattle.arithmetic_matrices.specs.Kernels.{patch}
 use Rattle.arithmetic_matrices.proofs.MatrixLaws.{tab-get_or}
-use Rattle.arithmetic_matrices.proofs.PatchLaws.{patch-none, patch-more, patch_all}
+use Rattle.arithmetic_matrices.proofs.PatchLaws.{patch_none, patch_more, patch_all}
 use native.Mathlib.Omega.{arith}
 use borrow.Author.Rules.{rules}
 use Rattle.lu_substitution.proofs.pivots.copy_pivots.Statement.{statement}
@@ -17,7 +17,7 @@ abbrev decreases-loop : tie.decreases-loop
 decreases-loop dst₀ src k₀ dst k = length src - k
 
 loop-holds : tie.Need-loop-init invariant-loop decreases-loop
-loop-holds c = let s : tie.Start invariant-loop decreases-loop = search in (omega arith, s.pre, refl, patch-none 0 0 _ _)
+loop-holds c = let s : tie.Start invariant-loop decreases-loop = search in (omega arith, s.pre, refl, patch_none 0 0 _ _)
 
 loop-again : tie.Need-loop-preserved invariant-loop decreases-loop
 loop-again c =
@@ -25,7 +25,7 @@ loop-again c =
     let s : tie.Start invariant-loop decreases-loop = search in
     let l = head.loop in
     let a = s.args in
-    (omega arith, l.inv.1, simp length-set l.inv.2, rw l.inv.3 (patch-more 0 0 _ a.dst.now l.k (omega arith) (omega arith)))
+    (omega arith, l.inv.1, simp length-set l.inv.2, rw l.inv.3 (patch_more 0 0 _ a.dst.now l.k (omega arith) (omega arith)))
 
 returns : tie.Need-returns invariant-loop decreases-loop
 returns c =

@@ -7,7 +7,7 @@ use lib.ListN.{length, length-set}
 use lib.Ieee.{binary32, nan}
 use Rattle.arithmetic_matrices.specs.Matrix.{part, put}
 use Rattle.arithmetic_matrices.specs.Kernels.{patch}
-use Rattle.arithmetic_matrices.proofs.PatchLaws.{patch-none}
+use Rattle.arithmetic_matrices.proofs.PatchLaws.{patch_none}
 use Rattle.arithmetic_matrices.proofs.PartLaws.{put-part}
 use Rattle.lu_factoring.specs.Kernels.{lowered}
 use Rattle.lu_systems.proofs.RowSteps.{lower_column_turn}
@@ -30,7 +30,7 @@ loop-holds c =
       omega arith,
       s.pre.0.1,
       refl,
-      sym (put-part a.w.now a.x a.n s.pre.1.1) ∙ ap (put a.w.now a.x) (patch-none nan a.lo (lowered binary32 a.n (part a.w.now a.f (a.n * a.n)) a.k l) l),
+      sym (put-part a.w.now a.x a.n s.pre.1.1) ∙ ap (put a.w.now a.x) (patch_none nan a.lo (lowered binary32 a.n (part a.w.now a.f (a.n * a.n)) a.k l) l),
     )
 
 loop-again : tie.Need-loop-preserved invariant-loop decreases-loop
