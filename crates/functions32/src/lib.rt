@@ -1,4 +1,6 @@
 // The functions of a matrix, as they are called from outside: this crate is the face of the crates functions_*32.
+#![tactic(auto)]
+
 pub use functions_exponential_derivative32::condition::{Condition, ConditionAnswer, cond_expm};
 pub use functions_exponential_derivative32::frechet::frechet_expm;
 pub use functions_exponential32::expm::expm;

@@ -1,4 +1,6 @@
 // The exponential of a matrix.
+#![tactic(auto)]
+
 pub mod expm;
 mod exponential;
 pub mod halvings;

@@ -1,5 +1,7 @@
 // The Kronecker product and the Kronecker sum of two matrices, written block by block: block (i, j) is formed from entry (i, j) of the first matrix.
 // Last the two calls, which ask their questions first.
+#![tactic(auto)]
+
 pub mod question;
 
 ghost use Rattle.std.specs.Prelude.{◌≡◌, ◌+◌, ◌*◌, ◌<◌, ◌≤◌, length};

@@ -1,4 +1,6 @@
 // The logarithm of a matrix and its derivative.
+#![tactic(auto)]
+
 mod calls;
 mod log_derivative;
 pub mod logarithm;

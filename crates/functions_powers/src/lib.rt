@@ -1,4 +1,6 @@
 // Powers of a matrix.
+#![tactic(auto)]
+
 mod calls;
 pub mod exponent;
 mod power;

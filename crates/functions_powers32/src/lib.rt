@@ -1,4 +1,6 @@
 // Powers of a matrix.
+#![tactic(auto)]
+
 mod calls;
 mod power;
 mod whole;

@@ -1,4 +1,6 @@
 // The derivatives of the square root of a matrix.
+#![tactic(auto)]
+
 mod calls;
 mod root_derivative;
 mod sylvester;

@@ -1,4 +1,6 @@
 // The square root of a matrix.
+#![tactic(auto)]
+
 mod calls;
 pub mod division;
 pub mod pass;

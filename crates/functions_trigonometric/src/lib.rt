@@ -1,4 +1,6 @@
 // Cosine and sine of a matrix.
+#![tactic(auto)]
+
 mod calls;
 mod cosine;
 mod sine;

@@ -2,6 +2,8 @@
 // whether a refused call leaves the sign and the payload of the NaNs that it was lent. Each answers the refusal's number, and 0 where the call is done;
 // its report has five numbers: the halvings and 0 where it is done, or both details of a refusal; the bits of the smallest pivot; the steps; and 1 where
 // the iterations settled, or 0.
+#![tactic(auto)]
+
 use arithmetic::{Answer, Outcome, Refusal, Report, smallest_bits};
 
 // A place outside the slice is left out.

@@ -1,4 +1,5 @@
 // Two steps inside the public calls, exported for host/bench, which times them alone.
+#![tactic(auto)]
 
 // The 1-norm of the n by n matrix that the workspace w begins with; 0 where n is above 16 or w is shorter than 8,192 numbers.
 #[unsafe(no_mangle)]

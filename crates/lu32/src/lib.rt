@@ -1,4 +1,6 @@
 // The public calls of LU: factors, solutions and the determinant.
+#![tactic(auto)]
+
 mod calls;
 pub mod question;
 

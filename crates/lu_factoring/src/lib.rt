@@ -1,4 +1,6 @@
 // LU factoring with partial pivoting.
+#![tactic(auto)]
+
 pub mod factor;
 pub mod part;
 pub mod pivots;

@@ -1,3 +1,5 @@
 // Systems of equations by their factors, in slices of the caller's, and the determinant.
+#![tactic(auto)]
+
 pub mod pivots;
 pub mod substitution;

@@ -1,2 +1,4 @@
 // Systems of equations by their factors, in slices of the caller's, and the determinant.
+#![tactic(auto)]
+
 pub mod substitution;

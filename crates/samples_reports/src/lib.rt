@@ -1,1 +1,2 @@
 // What the calls report, at numbers. The claims stand in specs/.
+#![tactic(auto)]

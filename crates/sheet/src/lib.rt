@@ -1,4 +1,6 @@
 // The exported entries: one runs a sheet's tasks and writes a line for each, the other writes a sheet from its sections.
+#![tactic(auto)]
+
 ghost use Rattle.std.specs.Prelude.{◌≡◌, length};
 ghost use Rattle.std.specs.Float.{binary64};
 ghost use Rattle.arithmetic_questions.specs.Result.{outcome};

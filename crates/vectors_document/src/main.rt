@@ -1,6 +1,8 @@
 // Runs the lines of document 01's trial bench that have no star; those with a star are proved. It writes for each whether the outcome, the
 // outputs and what is left in the workspace are as document 01 says, compared bit for bit, and then how many lines there are and how many differ.
 // The values stand here and are not read, so no difference is planted.
+#![tactic(auto)]
+
 ghost use Rattle.std.specs.Prelude.{◌≡◌, ◌<◌, length};
 
 mod compare;

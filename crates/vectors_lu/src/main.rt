@@ -2,6 +2,8 @@
 // for bit, NaN as one value. It writes a line for each function: how many calls there are and how many differ. host/README.md describes the
 // vectors; tools/record-vectors makes those in the file stdin, and says which they are. The last four lines of each function are planted,
 // and the program must find each. So stdout says of each function that four calls differ, from the first of those lines on.
+#![tactic(auto)]
+
 ghost use Rattle.std.specs.Prelude.{◌≤◌, length};
 
 mod run;

@@ -1,4 +1,6 @@
 // Reading recorded vectors: hexadecimal numbers in a text, one separator after each. The modules hold what programs that run calls share.
+#![tactic(auto)]
+
 ghost use Rattle.std.specs.Prelude.{◌≤◌, length};
 
 mod bits;

@@ -1,6 +1,8 @@
 // Runs the recorded square roots that it reads on standard input: a number's bits and its root's, a pair to a line. It writes how many there are
 // and how many differ. tools/record-vectors makes those in the file stdin. The last line is planted: its root is wrong in the last bit, and the
 // program must find it. So stdout says that one differs, on the last line.
+#![tactic(auto)]
+
 use arithmetic::sqrt;
 use vectors_recorded::tally::{Tally, judged, next, write_tally};
 use vectors_recorded::{has_bits, number_of, word};
