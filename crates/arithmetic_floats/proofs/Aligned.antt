@@ -1,5 +1,5 @@
 -- The root of q * 2 ^ e smallest values, over the format, from the digits of q moved to the top of a word of 64. Assumes nothing.
-use Rattle.std.proofs.Common.{◌≡◌, ℕ, zero, suc, ◌+◌, ◌-◌, ◌*◌, ◌/◌, ◌%◌, ◌^◌, ◌<◌, ◌≤◌, false, sym, refl, ap, ◌∙◌, subst, le_trans, le_of_eq, lt_of_lt_of_le, lt_of_le_of_lt, lt_irrefl, mul-le-mul_right, mul_assoc, suc-mul, add-mul, lt_of_mul_lt_mul_right, pow-suc, lt_of_not-le, le_of_mul-le-mul_right, add-one, arith, lit≤, pow_pos, pow_mono, pow-add, shl_lt, shl_exact}
+use Rattle.std.proofs.Common.{◌≡◌, ℕ, zero, suc, ◌+◌, ◌-◌, ◌*◌, ◌/◌, ◌%◌, ◌^◌, ◌<◌, ◌≤◌, false, sym, refl, ap, ◌∙◌, subst, le_trans, le_of_eq, lt_of_lt_of_le, lt_of_le_of_lt, lt_irrefl, mul-le-mul_right, mul_assoc, suc-mul, add-mul, lt_of_mul-lt-mul_right, pow-suc, lt_of_not-le, le_of_mul-le-mul_right, add-one, arith, lit≤, pow_pos, pow_mono, pow-add, shl_lt, shl_exact}
 use native.Mathlib.Nat.{mul-mod_left}
 use lib.Pow.{pow-lt}
 use lib.Count.{count_leading_zeros, leading_top, leading_le}
@@ -129,7 +129,7 @@ module _ (f : Format) (q e : ℕ) (S : Scaled f q e) where
     root_is : IsRoot (q * 2 ^ t) r
     root_is = (
       le_of_mul-le-mul_right (le_trans R.0 (le_of_eq read)) (pow_pos 64),
-      lt_of_mul_lt_mul_right (2 ^ 64) (subst (λ (x : ℕ). q * 2 ^ t * 2 ^ 64 < x * x * 2 ^ 64) (add-one r) (lt_of_le_of_lt (le_of_eq (sym read)) R.1)),
+      lt_of_mul-lt-mul_right (2 ^ 64) (subst (λ (x : ℕ). q * 2 ^ t * 2 ^ 64 < x * x * 2 ^ 64) (add-one r) (lt_of_le_of_lt (le_of_eq (sym read)) R.1)),
     )
 
     r_ge : 2 ^ p ≤ r

@@ -1,5 +1,5 @@
 -- A finite value that the format holds, counted in the format's smallest values: a number of at most `prec` digits with zeros after it, below `overflow`. Assumes nothing.
-use Rattle.std.proofs.Common.{◌≡◌, ℕ, zero, suc, ◌+◌, ◌-◌, ◌*◌, ◌/◌, ◌^◌, ◌<◌, ◌≤◌, Bool, true, false, T, ◌⊎◌, ℤ, pos, negsuc, sym, refl, ap, ◌∙◌, subst, inl, inr, lt_of_lt_of_le, le_of_suc-le-suc, lt_irrefl, mul_assoc, mul_comm, lt_of_mul_lt_mul_right, mul-lt-mul_of_pos_right, lt_of_not-le, zero-mul, mul-one, mul_right_comm, mul-div_cancel, arith, pow_pos, pow_mono, pow-add, shl_lt}
+use Rattle.std.proofs.Common.{◌≡◌, ℕ, zero, suc, ◌+◌, ◌-◌, ◌*◌, ◌/◌, ◌^◌, ◌<◌, ◌≤◌, Bool, true, false, T, ◌⊎◌, ℤ, pos, negsuc, sym, refl, ap, ◌∙◌, subst, inl, inr, lt_of_lt_of_le, le_of_suc-le-suc, lt_irrefl, mul_assoc, mul_comm, lt_of_mul-lt-mul_right, mul-lt-mul_of_pos_right, lt_of_not-le, zero-mul, mul-one, mul_right_comm, mul-div_cancel, arith, pow_pos, pow_mono, pow-add, shl_lt}
 use native.Mathlib.Decide.{dec_le}
 use lib.Pow.{pow-lt}
 use lib.Ieee.{Float, nan, inf, fin, Format, prec, emax, low, up, down, fits}
@@ -52,7 +52,7 @@ something f m e a b c =
     subst (λ (x : ℕ). x < overflow f * down e) (sym whole)
     (subst (λ (x : ℕ). m * up e * 2 ^ low f < x) (mul_right_comm (2 ^ suc (emax f)) (down e) (2 ^ low f) ∙ ap (λ (x : ℕ). x * down e) (mul_comm (2 ^ suc (emax f)) (2 ^ low f) ∙ sym (pow-add 2 (low f) (suc (emax f)))))
     (mul-lt-mul_of_pos_right c (pow_pos (low f)))) in
-    record { m = m; j = p.0; is = is; m_lt = a; n_lt = lt_of_mul_lt_mul_right (down e) lt }
+    record { m = m; j = p.0; is = is; m_lt = a; n_lt = lt_of_mul-lt-mul_right (down e) lt }
 
 pub counted : (f : Format) (x : Float) → T (fits f x) → Counted f (count f x)
 counted f nan h = nothing f 0 refl

@@ -1,5 +1,5 @@
 -- The least power of two that is not below a number: `halvings` gives it, and so do the fields of a bit pattern, over the format. Assumes nothing.
-use Rattle.std.proofs.Common.{◌≡◌, ℕ, zero, suc, ◌+◌, ◌-◌, ◌*◌, ◌/◌, ◌%◌, ◌^◌, ◌<◌, ◌≤◌, false, not, T, ℤ, sym, refl, ap, ◌∙◌, subst, le_trans, le_of_eq, lt_of_lt_of_le, le_of_suc-le-suc, not-suc-le-zero, lt_of_le_of_lt, le_of_lt, mul-le-mul_right, mod-lt, mul_comm, le_antisymm, lt_of_mul_lt_mul_right, mul-lt-mul_of_pos_right, one-mul, lt_of_not-le, zero-add, mul-one, mul_right_comm, not-le_of_lt, div-mul-le_self, le_of_mul-le-mul_right, arith, lt→ltb, pow_pos, pow_mono, pow-add, shl_lt}
+use Rattle.std.proofs.Common.{◌≡◌, ℕ, zero, suc, ◌+◌, ◌-◌, ◌*◌, ◌/◌, ◌%◌, ◌^◌, ◌<◌, ◌≤◌, false, not, T, ℤ, sym, refl, ap, ◌∙◌, subst, le_trans, le_of_eq, lt_of_lt_of_le, le_of_suc-le-suc, not-suc-le-zero, lt_of_le_of_lt, le_of_lt, mul-le-mul_right, mod-lt, mul_comm, le_antisymm, lt_of_mul-lt-mul_right, mul-lt-mul_of_pos_right, one-mul, lt_of_not-le, zero-add, mul-one, mul_right_comm, not-le_of_lt, div-mul-le_self, le_of_mul-le-mul_right, arith, lt→ltb, pow_pos, pow_mono, pow-add, shl_lt}
 use native.Mathlib.Nat.{lt-div-mul-add, div-eq_of_lt}
 use lib.Pow.{pow-lt}
 use lib.Ieee.{Float, nan, inf, fin, Format, prec, emax, low, up, down, size, hid, ones, fits, to_bits, lt, eq, le}
@@ -49,7 +49,7 @@ halvings_least x = ceiling_least (num x) (den x) (den_pos x)
 pub least_scale : (n d a l s : ℕ) → 0 < d → 0 < l → n * l ≡ a * d → Least a l s → Least n d s
 least_scale n d a l s D L e h = (
   le_of_mul-le-mul_right {k = l} (le_trans (le_of_eq e) (le_trans (mul-le-mul_right d h.0) (le_of_eq (mul_right_comm (2 ^ s) l d)))) L,
-  λ j k. lt_of_mul_lt_mul_right l (lt_of_le_of_lt (le_of_eq (mul_right_comm (2 ^ j) d l)) (lt_of_lt_of_le (mul-lt-mul_of_pos_right (h.1 j k) D) (le_of_eq (sym e)))),
+  λ j k. lt_of_mul-lt-mul_right l (lt_of_le_of_lt (le_of_eq (mul_right_comm (2 ^ j) d l)) (lt_of_lt_of_le (mul-lt-mul_of_pos_right (h.1 j k) D) (le_of_eq (sym e)))),
 )
 
 -- ---- at most 1, and above
@@ -113,7 +113,7 @@ module _ (f : Format) (m : ℕ) (e : ℤ) (held : T (fits f (fin false m e))) (m
   is = (cases.value_mid f x held above field_pos field_lt).1
 
   a_gt : 2 ^ low f < a
-  a_gt = lt_of_mul_lt_mul_right (down e) (lt_of_lt_of_le (lt_of_le_of_lt (le_of_eq (mul_comm (2 ^ low f) (down e))) (mul-lt-mul_of_pos_right more (pow_pos (low f)))) (le_of_eq is))
+  a_gt = lt_of_mul-lt-mul_right (down e) (lt_of_lt_of_le (lt_of_le_of_lt (le_of_eq (mul_comm (2 ^ low f) (down e))) (mul-lt-mul_of_pos_right more (pow_pos (low f)))) (le_of_eq is))
 
   full : digits + hid f < 2 ^ prec f
   full = omega (arith, digits_lt, twice_hid f)

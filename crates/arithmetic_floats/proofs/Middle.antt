@@ -1,6 +1,6 @@
 -- The root of N, cut to its p leading digits and moved up by the test on squares, is nearer to the exact root than any other number of p digits with zeros after it.
 -- N is a number of at most p digits with zeros after it, one at least. Nothing here is about floats. Assumes nothing.
-use Rattle.std.proofs.Common.{◌≡◌, ℕ, zero, suc, ◌+◌, ◌-◌, ◌*◌, ◌/◌, ◌^◌, ◌<◌, ◌≤◌, ◌⊎◌, sym, refl, ap, ◌∙◌, subst, inl, inr, suc-le-suc, le_trans, le_of_eq, le_refl, lt_of_lt_of_le, le_of_suc-le-suc, lt_of_le_of_lt, le_of_lt, lt_irrefl, mul-le-mul_right, mul_assoc, suc-mul, mul_comm, add-mul, mul-le-mul, lt_of_mul_lt_mul_right, eq-or-lt_of_le, mul-lt-mul_of_pos_right, mul-pos, pow-suc, lt_of_not-le, le-div_iff_mul-le, mul-one, not-le_of_lt, div-mul-le_self, div-one, mul_left_comm, arith, pow_pos, pow_mono, pow-add, shl_lt}
+use Rattle.std.proofs.Common.{◌≡◌, ℕ, zero, suc, ◌+◌, ◌-◌, ◌*◌, ◌/◌, ◌^◌, ◌<◌, ◌≤◌, ◌⊎◌, sym, refl, ap, ◌∙◌, subst, inl, inr, suc-le-suc, le_trans, le_of_eq, le_refl, lt_of_lt_of_le, le_of_suc-le-suc, lt_of_le_of_lt, le_of_lt, lt_irrefl, mul-le-mul_right, mul_assoc, suc-mul, mul_comm, add-mul, mul-le-mul, lt_of_mul-lt-mul_right, eq-or-lt_of_le, mul-lt-mul_of_pos_right, mul-pos, pow-suc, lt_of_not-le, le-div_iff_mul-le, mul-one, not-le_of_lt, div-mul-le_self, div-one, mul_left_comm, arith, pow_pos, pow_mono, pow-add, shl_lt}
 use Prim.Native.Nat.{compare}
 use native.Mathlib.Nat.{mul-mul-mul_comm, eq_of_mul-eq-mul_right, lt-div-mul-add}
 use native.Mathlib.Decide.{dec_le}
@@ -156,11 +156,11 @@ module _ (p N m i : ℕ) (P : 0 < p) (I : 0 < i) (is : N ≡ m * 2 ^ i) (small :
       go (suc h) e = inr (lt_of_lt_of_le x (le_trans (le_of_eq (pow-add 2 (p - 1) k)) (mul-le-mul_right (2 ^ k) (kept h e))))
 
   next_above : (t : ℕ) → Placed t → q * 2 ^ k < t → suc q * 2 ^ k ≤ t
-  next_above t (inl x) l = le_trans (mul-le-mul_right (2 ^ k) (lt_of_mul_lt_mul_right (2 ^ k) (subst (λ (y : ℕ). q * 2 ^ k < y) x.1 l))) (le_of_eq (sym x.1))
+  next_above t (inl x) l = le_trans (mul-le-mul_right (2 ^ k) (lt_of_mul-lt-mul_right (2 ^ k) (subst (λ (y : ℕ). q * 2 ^ k < y) x.1 l))) (le_of_eq (sym x.1))
   next_above t (inr x) l = absurd (not-le_of_lt x (le_of_lt l))
 
   next_below : (t : ℕ) → Placed t → t < suc q * 2 ^ k → t ≤ q * 2 ^ k
-  next_below t (inl x) l = le_trans (le_of_eq x.1) (mul-le-mul_right (2 ^ k) (le_of_suc-le-suc (lt_of_mul_lt_mul_right (2 ^ k) (subst (λ (y : ℕ). y < suc q * 2 ^ k) x.1 l))))
+  next_below t (inl x) l = le_trans (le_of_eq x.1) (mul-le-mul_right (2 ^ k) (le_of_suc-le-suc (lt_of_mul-lt-mul_right (2 ^ k) (subst (λ (y : ℕ). y < suc q * 2 ^ k) x.1 l))))
   next_below t (inr x) l = le_of_lt x
 
   -- ---- the result

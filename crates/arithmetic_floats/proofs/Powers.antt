@@ -1,5 +1,5 @@
 -- Powers of two by their bit patterns, over the format: 2 ^ i smallest values. Assumes nothing.
-use Rattle.std.proofs.Common.{◌≡◌, ℕ, zero, suc, ◌+◌, ◌-◌, ◌*◌, ◌/◌, ◌%◌, ◌^◌, ◌<◌, ◌≤◌, Bool, true, false, cond, not, ◌&&◌, T, eqb, ltb, leb, ℤ, pos, negsuc, sym, refl, ap, ◌∙◌, le_of_eq, le_refl, lt_of_lt_of_le, lt_of_le_of_lt, suc-mul, lt_of_mul_lt_mul_right, mul-lt-mul_of_pos_right, one-mul, mul_right_comm, mul-div_cancel, arith, le→leb, lt→ltb, pow_pos, pow_mono, pow-add}
+use Rattle.std.proofs.Common.{◌≡◌, ℕ, zero, suc, ◌+◌, ◌-◌, ◌*◌, ◌/◌, ◌%◌, ◌^◌, ◌<◌, ◌≤◌, Bool, true, false, cond, not, ◌&&◌, T, eqb, ltb, leb, ℤ, pos, negsuc, sym, refl, ap, ◌∙◌, le_of_eq, le_refl, lt_of_lt_of_le, lt_of_le_of_lt, suc-mul, lt_of_mul-lt-mul_right, mul-lt-mul_of_pos_right, one-mul, mul_right_comm, mul-div_cancel, arith, le→leb, lt→ltb, pow_pos, pow_mono, pow-add}
 use lib.Dec.{nleb→lt}
 use lib.Arith.{lt→nleb}
 use lib.Pow.{pow-lt}
@@ -32,7 +32,7 @@ module _ (f : Format) (i : ℕ) (i-le : i ≤ low f + emax f) where
 
   below : 1 * up e < 2 ^ suc (emax f) * down e
   below =
-      lt_of_mul_lt_mul_right (2 ^ low f)
+      lt_of_mul-lt-mul_right (2 ^ low f)
       (lt_of_le_of_lt (le_of_eq value.1)
       (lt_of_lt_of_le (mul-lt-mul_of_pos_right (pow-lt {i = i} {j = suc (emax f) + low f} (omega arith)) (down_pos e))
       (le_of_eq (ap (λ (x : ℕ). x * down e) (pow-add 2 (suc (emax f)) (low f)) ∙ mul_right_comm (2 ^ suc (emax f)) (2 ^ low f) (down e)))))

@@ -1,5 +1,5 @@
 -- The whole part of a root: `isqrt` gives it, there is one, and it is cut where its radicand is cut. Assumes nothing.
-use Rattle.std.proofs.Common.{◌≡◌, ℕ, zero, suc, ◌*◌, ◌/◌, ◌^◌, ◌<◌, ◌≤◌, Bool, true, false, cond, not, T, leb, sym, ap, ◌∙◌, subst, subst₂, le_trans, le_of_eq, lt_of_lt_of_le, le_of_suc-le-suc, lt_of_le_of_lt, lt_irrefl, zero-lt-suc, suc-mul, mul_comm, div-lt_iff_lt-mul, mul-le-mul, le_antisymm, lt_of_mul_lt_mul_right, mul-pos, pow-suc, lt_of_not-le, div-mul-le_self, le_of_mul-le-mul_right, arith, leb→le}
+use Rattle.std.proofs.Common.{◌≡◌, ℕ, zero, suc, ◌*◌, ◌/◌, ◌^◌, ◌<◌, ◌≤◌, Bool, true, false, cond, not, T, leb, sym, ap, ◌∙◌, subst, subst₂, le_trans, le_of_eq, lt_of_lt_of_le, le_of_suc-le-suc, lt_of_le_of_lt, lt_irrefl, zero-lt-suc, suc-mul, mul_comm, div-lt_iff_lt-mul, mul-le-mul, le_antisymm, lt_of_mul-lt-mul_right, mul-pos, pow-suc, lt_of_not-le, div-mul-le_self, le_of_mul-le-mul_right, arith, leb→le}
 use native.Mathlib.Nat.{mul-mul-mul_comm, lt-div-mul-add}
 use lib.Dec.{nleb→lt}
 use lib.Ieee.{size}
@@ -58,5 +58,5 @@ root_cut n p w h x =
     let lo : v * p ≤ w = div-mul-le_self w p in
     let hi : suc w ≤ suc v * p = le_trans (lt-div-mul-add h) (le_of_eq (sym (suc-mul v p))) in (
       le_of_mul-le-mul_right (le_trans (le_of_eq (mul-mul-mul_comm v v p p)) (le_trans (mul-le-mul lo lo) x.0)) (mul-pos h h),
-      lt_of_mul_lt_mul_right (p * p) (lt_of_lt_of_le x.1 (le_trans (mul-le-mul hi hi) (le_of_eq (mul-mul-mul_comm (suc v) p (suc v) p)))),
+      lt_of_mul-lt-mul_right (p * p) (lt_of_lt_of_le x.1 (le_trans (mul-le-mul hi hi) (le_of_eq (mul-mul-mul_comm (suc v) p (suc v) p)))),
     )

@@ -1,5 +1,5 @@
 -- A whole number as a value of the format, and `round_away` by the bits of a value and of its magnitude. Assumes nothing.
-use Rattle.std.proofs.Common.{◌≡◌, ℕ, zero, suc, ◌+◌, ◌-◌, ◌*◌, ◌/◌, ◌%◌, ◌^◌, ◌<◌, ◌≤◌, Bool, true, false, cond, not, T, eqb, ltb, leb, ◌⊎◌, ℤ, pos, sym, refl, ap, ◌∙◌, subst, inl, inr, le_trans, le_of_eq, le-add_right, lt_of_le_of_lt, add_assoc, mul-le-mul_right, zero-lt-suc, add-mul, lt_of_mul_lt_mul_right, lt_of_not-le, zero-mul, mul-one, mul_right_comm, not-le_of_lt, arith, le→leb, lt→ltb, pow_pos}
+use Rattle.std.proofs.Common.{◌≡◌, ℕ, zero, suc, ◌+◌, ◌-◌, ◌*◌, ◌/◌, ◌%◌, ◌^◌, ◌<◌, ◌≤◌, Bool, true, false, cond, not, T, eqb, ltb, leb, ◌⊎◌, ℤ, pos, sym, refl, ap, ◌∙◌, subst, inl, inr, le_trans, le_of_eq, le-add_right, lt_of_le_of_lt, add_assoc, mul-le-mul_right, zero-lt-suc, add-mul, lt_of_mul-lt-mul_right, lt_of_not-le, zero-mul, mul-one, mul_right_comm, not-le_of_lt, arith, le→leb, lt→ltb, pow_pos}
 use Prim.Native.Nat.{compare}
 use native.Mathlib.Nat.{eq_of_mul-eq-mul_right}
 use lib.Ieee.{Float, nan, inf, fin, Format, prec, emax, low, up, down, size, nearest, odd, units, round, neg, ne, eq, of_int, fits, is_nan, hid, ones, top, of_fields, to_bits}
@@ -90,7 +90,7 @@ module _ (f : Format) (s : Bool) (m : ℕ) (e : ℤ) (held : T (fits f (fin fals
   k_ge : low f ≤ size n - prec f
   k_ge =
       enough (low f) (size n - prec f)
-      (lt_of_mul_lt_mul_right (hid f)
+      (lt_of_mul-lt-mul_right (hid f)
       (lt_of_le_of_lt large (lt_of_le_of_lt (le_of_eq (to_bits_of f y n value)) (sum ((size n - prec f) * hid f) (n / 2 ^ (size n - prec f)) (kept-lt (prec f) n) (add-mul (size n - prec f) 2 (hid f))))))
     where
       enough : (l k : ℕ) → l + 1 < k + 2 → l ≤ k

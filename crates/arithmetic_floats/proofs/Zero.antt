@@ -1,6 +1,6 @@
 -- Zeros under f32's and f64's operations: what a sum, a difference, a product and a quotient with a zero come to, signs included.
 -- `Zero x`: x is +0 or -0. `Plus x`: x is not -0. Assumes nothing.
-use Rattle.std.proofs.Common.{◌≡◌, ℕ, zero, suc, ◌+◌, ◌-◌, ◌*◌, ◌/◌, ◌%◌, ◌^◌, ◌<◌, ◌≤◌, Bool, true, false, cond, not, ◌&&◌, T, eqb, ltb, leb, ℤ, pos, negsuc, sym, refl, ap, ◌∙◌, subst, subst₂, inl, inr, true≢false, suc-le-suc, le_trans, le_of_eq, lt_of_lt_of_le, add-zero, lt_irrefl, mul-le-mul_right, zero-lt-suc, mul_assoc, mul_comm, lt_of_mul_lt_mul_right, mul-lt-mul_of_pos_right, mul-pos, one-mul, mul-zero, le-div_iff_mul-le, zero-mul, mul-one, mul_right_comm, mul_left_comm, arith, eqb→eq, ltb→lt, lt→ltb, leb→le, pow_pos, pow-add}
+use Rattle.std.proofs.Common.{◌≡◌, ℕ, zero, suc, ◌+◌, ◌-◌, ◌*◌, ◌/◌, ◌%◌, ◌^◌, ◌<◌, ◌≤◌, Bool, true, false, cond, not, ◌&&◌, T, eqb, ltb, leb, ℤ, pos, negsuc, sym, refl, ap, ◌∙◌, subst, subst₂, inl, inr, true≢false, suc-le-suc, le_trans, le_of_eq, lt_of_lt_of_le, add-zero, lt_irrefl, mul-le-mul_right, zero-lt-suc, mul_assoc, mul_comm, lt_of_mul-lt-mul_right, mul-lt-mul_of_pos_right, mul-pos, one-mul, mul-zero, le-div_iff_mul-le, zero-mul, mul-one, mul_right_comm, mul_left_comm, arith, eqb→eq, ltb→lt, lt→ltb, leb→le, pow_pos, pow-add}
 use Prim.Native.Nat.{compare}
 use native.Mathlib.Nat.{eq_of_mul-eq-mul_right, pow-succ', div-div-eq-div-mul, sub-zero}
 use mathlib.Core.Bool.{beq, false≢true}
@@ -110,6 +110,9 @@ units_of f (fin t m e) s a c C v =
     (mul_right_comm (m * up e) (2 ^ low f) c ∙ ap (λ (x : ℕ). x * 2 ^ low f) v.1 ∙ mul_right_comm a (down e) (2 ^ low f)) in
     λ i. cond (v.0 i) (top f) 0 + (size (q i) - prec f) * hid f + q i / 2 ^ (size (q i) - prec f)
 
+units_of f nan s a c C v = elim v [ ]
+units_of f (inf _) s a c C v = elim v [ ]
+
 pub value_unique : (f : Format) (x y : Float) (s : Bool) (a c : ℕ) → 0 < c → Fits f x → Fits f y → HasValue x s a c → HasValue y s a c → x ≡ y
 value_unique f x y s a c C p q v w =
     sym (of_bits-to_bits f x p) ∙ ap (of_bits f) (units_of f x s a c C v ∙ sym (units_of f y s a c C w)) ∙ of_bits-to_bits f y q
@@ -122,7 +125,7 @@ round_fit f s m e a c C t h =
     let u = m * 2 ^ j.0 in
     let uv : m * up e * 2 ^ low f ≡ u * down e = mul_assoc m (up e) (2 ^ low f) ∙ ap (λ (x : ℕ). m * x) j.1 ∙ sym (mul_assoc m (2 ^ j.0) (down e)) in
     let small : u < 2 ^ (low f + suc (emax f)) =
-    lt_of_mul_lt_mul_right (down e)
+    lt_of_mul-lt-mul_right (down e)
     (subst (λ (x : ℕ). x < 2 ^ (low f + suc (emax f)) * down e) uv
     (lt_of_lt_of_le (mul-lt-mul_of_pos_right n.under (pow_pos (low f)))
     (le_of_eq (simp (mul_assoc, mul_comm, mul_left_comm, pow-add))))) in
@@ -217,7 +220,7 @@ above_part x y h = omega arith
 difference : (x y P Y X c : ℕ) → 0 < P → x * P ≡ X * c → y * P ≡ Y * c → y < x → c ≤ (x - y) * P
 difference x y P Y X c p h g l =
     gap (x - y) y P Y X c (ap (λ (z : ℕ). z * P) (above_part x y l) ∙ h) g
-    (lt_of_mul_lt_mul_right c (subst (λ (z : ℕ). z < X * c) g (subst (λ (z : ℕ). y * P < z) h (mul-lt-mul_of_pos_right l p))))
+    (lt_of_mul-lt-mul_right c (subst (λ (z : ℕ). z < X * c) g (subst (λ (z : ℕ). y * P < z) h (mul-lt-mul_of_pos_right l p))))
 
 -- and so is a sum, where the first is not 0
 together : (x y P X c : ℕ) → 0 < P → x * P ≡ X * c → 0 < x → c ≤ (x + y) * P
