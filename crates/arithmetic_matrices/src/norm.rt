@@ -10,7 +10,7 @@ ghost use Rattle.arithmetic_matrices.specs.Workspace.{slot, Room};
 use arithmetic_floats::float::{larger, magnitude};
 
 // Two sums, taken in one loop.
-#[derive(Drop)]
+#[derive(Clone, Copy)]
 pub struct Sums {
     pub first: f64,
     pub second: f64,

@@ -9,7 +9,7 @@ ghost use Rattle.arithmetic_questions.specs.Reports.{nothing as nothing_reported
 use arithmetic_floats::float::{bits_of, smaller};
 
 // Why a call is refused. specs/Answers.antt gives each case its number.
-#[derive(Drop)]
+#[derive(Clone, Copy)]
 pub enum Refusal {
     EmptyMatrix,
     NotSquare(usize, usize),
@@ -29,7 +29,7 @@ pub enum Refusal {
 }
 
 // How a call ended.
-#[derive(Drop)]
+#[derive(Clone, Copy)]
 pub enum Outcome {
     Done { halvings: u64 },
     Refused(Refusal),
@@ -40,21 +40,21 @@ pub enum Outcome {
 // in a refused call.
 // steps: the passes of all root iterations and the terms of all series after the first, the last ones included; 0 in a refused call.
 // settled: whether each iteration was ended by its own test, and each logarithm's roots left a matrix near I; yes where there is none, no in a refused call.
-#[derive(Drop)]
+#[derive(Clone, Copy)]
 pub struct Report {
     pub smallest: f64,
     pub steps: u64,
     pub settled: bool,
 }
 
-#[derive(Drop)]
+#[derive(Clone, Copy)]
 pub struct Answer {
     pub outcome: Outcome,
     pub report: Report,
 }
 
 // What a question finds.
-#[derive(Drop)]
+#[derive(Clone, Copy)]
 pub enum Question {
     Passed,
     No(Refusal),

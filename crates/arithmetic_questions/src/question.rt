@@ -12,7 +12,7 @@ use crate::answer::{Question, Refusal};
 use arithmetic_floats::float::is_finite;
 
 // What the search for an entry that is not finite finds: none, or its row and column.
-#[derive(Drop)]
+#[derive(Clone, Copy)]
 pub enum Scan {
     AllFinite,
     At(usize, usize),

@@ -24,7 +24,7 @@ use arithmetic_questions::answer::{Answer, Outcome, Question, Refusal, Report, r
 use arithmetic_questions::question::ask_cond_expm;
 
 // The ratio of the norms, and the Frobenius norms of the derivative and of the exponential.
-#[derive(Drop)]
+#[derive(Clone, Copy)]
 pub struct Condition {
     pub ratio: f64,
     pub derivative_norm: f64,
@@ -32,7 +32,7 @@ pub struct Condition {
 }
 
 // The answer of `cond_expm`; +0 three times beside a refusal.
-#[derive(Drop)]
+#[derive(Clone, Copy)]
 pub struct ConditionAnswer {
     pub outcome: Outcome,
     pub condition: Condition,

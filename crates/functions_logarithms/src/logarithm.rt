@@ -24,14 +24,14 @@ use arithmetic_questions::answer::{
 use functions_roots::pass::{Pass, Passed, answers};
 
 // How many roots were taken, or that LU refused a matrix on the way to one.
-#[derive(Drop)]
+#[derive(Clone, Copy)]
 pub enum Roots {
     Taken(u64),
     Refused,
 }
 
 // How the roots ended, and what they report. After a refusal the report does not matter.
-#[derive(Drop)]
+#[derive(Clone, Copy)]
 pub struct TakenRoots {
     pub roots: Roots,
     pub report: Report,

@@ -21,7 +21,7 @@ use lu_factoring::room::pivot_room;
 use lu_systems::workspace::{Division, divide_reporting};
 
 // Whether LU accepts the system of a derivative, and what its factoring reports. After a refusal the report does not matter.
-#[derive(Drop)]
+#[derive(Clone, Copy)]
 struct Derivation {
     accepted: bool,
     report: Report,

@@ -10,7 +10,7 @@ use arithmetic_floats::root::sqrt;
 use arithmetic_questions::answer::Report;
 
 // What a pass makes of its iteration.
-#[derive(Drop)]
+#[derive(Clone, Copy)]
 pub enum Pass {
     Running,
     Stopped,
@@ -18,7 +18,7 @@ pub enum Pass {
 }
 
 // What a pass, or several, make of their iteration, and what they report. After a failure the report does not matter.
-#[derive(Drop)]
+#[derive(Clone, Copy)]
 pub struct Passed {
     pub pass: Pass,
     pub report: Report,

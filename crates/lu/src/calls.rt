@@ -22,7 +22,7 @@ use lu_substitution::pivots::copy_pivots;
 use lu_substitution::substitution::solve_rows;
 
 // The answer of `determinant`; +0 beside a refusal.
-#[derive(Drop)]
+#[derive(Clone, Copy)]
 pub struct DeterminantAnswer {
     pub outcome: Outcome,
     pub value: f64,

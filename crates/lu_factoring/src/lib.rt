@@ -8,7 +8,7 @@ pub mod room;
 pub mod swap;
 
 // What factoring a matrix gives: its factors stand in its place, or the column that was refused.
-#[derive(Drop)]
+#[derive(Clone, Copy)]
 pub enum LuOutcome {
     Factored,
     Singular(usize),

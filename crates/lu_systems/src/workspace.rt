@@ -16,7 +16,7 @@ use lu_factoring::factor::factor_in;
 use lu_factoring::pivots::smallest_pivot;
 
 // What a division gives: the outcome of LU, and the smallest pivot, which is plus infinity where LU refused.
-#[derive(Drop)]
+#[derive(Clone, Copy)]
 pub struct Division {
     pub outcome: LuOutcome,
     pub smallest: f64,

@@ -15,7 +15,7 @@ use crate::writing::{
 use arithmetic_questions::answer::{Outcome, Refusal};
 
 // The number of a refusal and its two details, 0 where there are none.
-#[derive(Drop)]
+#[derive(Clone, Copy)]
 pub struct Code {
     pub number: usize,
     pub first: usize,

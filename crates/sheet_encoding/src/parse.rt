@@ -6,7 +6,7 @@ ghost use Rattle.sheet_encoding.specs.Kernels.{value_of};
 
 // Why a sheet, or a call that makes one, is refused: the position of the first missing or extra byte; that of a count, code or index out of range; or a
 // length found, and the one wanted.
-#[derive(Drop)]
+#[derive(Clone, Copy)]
 pub enum SheetRefusal {
     ByteMissingOrExtra(usize),
     OutOfRange(usize),
@@ -17,14 +17,14 @@ pub enum SheetRefusal {
 pub const CODE_LIMIT: usize = 11;
 
 // A byte's value, or why the sheet is refused.
-#[derive(Drop)]
+#[derive(Clone, Copy)]
 pub enum Read {
     Value(usize),
     No(SheetRefusal),
 }
 
 // The order and the numbers of directions, exponents and tasks, or why the sheet is refused.
-#[derive(Drop)]
+#[derive(Clone, Copy)]
 pub enum Parse {
     Sheet(usize, usize, usize, usize),
     Refused(SheetRefusal),

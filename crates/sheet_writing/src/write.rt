@@ -9,7 +9,7 @@ use crate::questions::questions;
 use sheet_encoding::parse::{Read, SheetRefusal};
 
 // The length of the sheet that was written, or why none was.
-#[derive(Drop)]
+#[derive(Clone, Copy)]
 pub enum Written {
     Length(usize),
     Refused(SheetRefusal),

@@ -10,7 +10,7 @@ use vectors_recorded::call::{Shape, number_list, read_shape};
 use vectors_recorded::outcome::{LENT, same_call, same_values};
 use vectors_recorded::tally::{Verdict, judged};
 
-#[derive(Drop)]
+#[derive(Clone, Copy)]
 pub enum Function {
     Expm,
     Logm,

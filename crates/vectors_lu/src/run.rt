@@ -7,7 +7,7 @@ use vectors_recorded::call::{Shape, count_list, number_list, read_shape};
 use vectors_recorded::outcome::{LENT, LENT_PIVOT, same_call, same_values};
 use vectors_recorded::tally::{Verdict, judged};
 
-#[derive(Drop)]
+#[derive(Clone, Copy)]
 pub enum Function {
     Compute,
     Solve,

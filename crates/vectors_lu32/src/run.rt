@@ -9,7 +9,7 @@ use vectors_recorded::tally::{Verdict, judged};
 use vectors_recorded32::call::{Shape, number_list, read_shape};
 use vectors_recorded32::outcome::{LENT, same_call, same_values};
 
-#[derive(Drop)]
+#[derive(Clone, Copy)]
 pub enum Function {
     Compute,
     Solve,

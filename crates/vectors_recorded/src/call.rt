@@ -4,7 +4,7 @@ ghost use Rattle.std.specs.Prelude.{◌≡◌, ◌≤◌, length};
 use crate::{counts, number_of, numbers, word};
 
 // The counts of a call and its exponent, and where its lists start.
-#[derive(Drop)]
+#[derive(Clone, Copy)]
 pub struct Shape {
     pub rows: usize,
     pub columns: usize,
@@ -18,7 +18,7 @@ pub struct Shape {
 }
 
 // How many members of a list were read, and where the next list starts; no members where they do not fit.
-#[derive(Drop)]
+#[derive(Clone, Copy)]
 pub struct List {
     pub count: usize,
     pub next: usize,

@@ -13,14 +13,14 @@ use arithmetic::bits_of;
 pub use bits::number_of;
 
 // A number, and where the next one starts.
-#[derive(Drop)]
+#[derive(Clone, Copy)]
 pub struct Number {
     pub value: u64,
     pub next: usize,
 }
 
 // Whether what was read is what was wanted, and where the next number starts.
-#[derive(Drop)]
+#[derive(Clone, Copy)]
 pub struct Compared {
     pub same: bool,
     pub next: usize,

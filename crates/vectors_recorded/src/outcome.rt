@@ -5,7 +5,7 @@ use crate::{after, begins, same_counts, same_numbers, word};
 use arithmetic::{Outcome, Refusal, Report, bits_of, smallest_bits};
 
 // An outcome: number 0 and the halvings, or the refusal's number and its two details.
-#[derive(Drop)]
+#[derive(Clone, Copy)]
 struct Ending {
     number: u64,
     first: u64,
@@ -13,7 +13,7 @@ struct Ending {
 }
 
 // The recorded outcome and report, of which the smallest pivot is its bits, and where the recorded outputs start.
-#[derive(Drop)]
+#[derive(Clone, Copy)]
 struct Recorded {
     ending: Ending,
     smallest: u64,

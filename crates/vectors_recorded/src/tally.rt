@@ -1,7 +1,7 @@
 // Counts of the vectors of one function.
 
 // What a vector shows. It is skipped where its lists are longer than the room that the program keeps.
-#[derive(Drop)]
+#[derive(Clone, Copy)]
 pub enum Verdict {
     Same,
     Differs,
@@ -17,7 +17,7 @@ pub fn judged(same: bool) -> Verdict {
 }
 
 // How many vectors there are, how many of them differ, how many are skipped, and the line of the first that differs.
-#[derive(Drop)]
+#[derive(Clone, Copy)]
 pub struct Tally {
     pub calls: u64,
     pub differ: u64,
@@ -26,7 +26,7 @@ pub struct Tally {
 }
 
 // The counts, and where the vectors that were not run start: their line and their place in the text.
-#[derive(Drop)]
+#[derive(Clone, Copy)]
 pub struct Progress {
     pub tally: Tally,
     pub line: u64,

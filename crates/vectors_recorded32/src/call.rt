@@ -6,7 +6,7 @@ use vectors_recorded::call::List;
 use vectors_recorded::{counts, word};
 
 // The counts of a call and its exponent, and where its lists start.
-#[derive(Drop)]
+#[derive(Clone, Copy)]
 pub struct Shape {
     pub rows: usize,
     pub columns: usize,

@@ -7,7 +7,7 @@ use vectors_recorded::outcome::LENT_PIVOT;
 use vectors_recorded::{after, begins, same_counts, word};
 
 // An outcome: number 0 and the halvings, or the refusal's number and its two details.
-#[derive(Drop)]
+#[derive(Clone, Copy)]
 struct Ending {
     number: u64,
     first: u64,
@@ -15,7 +15,7 @@ struct Ending {
 }
 
 // The recorded outcome and report, of which the smallest pivot is its bits, and where the recorded outputs start.
-#[derive(Drop)]
+#[derive(Clone, Copy)]
 struct Recorded {
     ending: Ending,
     smallest: u64,
