@@ -11,8 +11,8 @@ loop-i-preserved c =
     let e = c.magnitude-v.ensures.value in
     let u = c.entry-in-loop-i.ensures in
     elim c.if-best-v.branch [
-      then-best-v w ↦ pivot_new s h e u w.if-best-v.true w.best-is w.p-is
-    | else-best-v w ↦ pivot_kept s h e u w.if-best-v.false w.best-is w.p-is
+      then-best-v w ↦ pivot_new s h e u w.if-best-v.true w.p-is w.best-is
+    | else-best-v w ↦ pivot_kept s h e u w.if-best-v.false w.p-is w.best-is
     ]
 
 pub returns : goal.returns
