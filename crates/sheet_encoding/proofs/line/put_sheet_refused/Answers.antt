@@ -1,0 +1,14 @@
+-- `put_sheet_refused` meets its contract. Assumes nothing.
+use mathlib.Core.List.{[]}
+use lib.Ieee.{binary64}
+use Rattle.sheet_encoding.specs.Parse.{sheet_numbered}
+use Rattle.sheet_encoding.proofs.LineLaws.{refused_line_lem}
+use Rattle.sheet_encoding.proofs.line.put_sheet_refused.Goals as goal
+
+pub returns : goal.returns
+returns c =
+    let line = c.Put-refused.ensures in
+    record {
+      wrote = rw (← refused_line_lem binary64 0 _ _ _ (sheet_numbered c.args.why) [] c.sheet_code_of.ensures) line.0;
+      upper_bound = line.1;
+    }
