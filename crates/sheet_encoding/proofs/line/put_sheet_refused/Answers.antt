@@ -7,7 +7,7 @@ use Rattle.sheet_encoding.proofs.line.put_sheet_refused.Goals as goal
 
 pub returns : goal.returns
 returns c =
-    let line = c.Put-refused.ensures in
+    let line = c.put_refused.ensures in
     record {
       wrote = rw (← refused_line_lem binary64 0 _ _ _ (sheet_numbered c.args.why) [] c.sheet_code_of.ensures) line.0;
       upper_bound = line.1;

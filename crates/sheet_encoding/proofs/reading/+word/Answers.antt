@@ -1,0 +1,29 @@
+-- `word` meets its contract. Assumes nothing.
+use mathlib.Core.Path.{sym}
+use native.Mathlib.Omega.{arith}
+use Rattle.sheet_encoding.proofs.BytesLaws.{word_at_none, word_at_more, word_lt, word_fits}
+use Rattle.sheet_encoding.proofs.reading.+word.Goals as goal
+
+pub returns-then-k-eq0 : goal.returns-then-k-eq0
+returns-then-k-eq0 t c = rw c.if-k-eq0.true (sym (word_at_none _ _), omega arith)
+
+pub overflow_mul-result : goal.overflow_mul-result
+overflow_mul-result t c =
+    let a = c.args in
+    let w = c.word-rest in
+    let l = word_lt a.k c.wide.result w.result (omega arith) (omega (arith, c.wide.ensures, c.type_inv.s a.p)) w.ensures.1 in
+    omega (arith, l, word_fits a.k (omega arith))
+
+pub overflow_add-result : goal.overflow_add-result
+overflow_add-result t c =
+    let a = c.args in
+    let w = c.word-rest in
+    let l = word_lt a.k c.wide.result w.result (omega arith) (omega (arith, c.wide.ensures, c.type_inv.s a.p)) w.ensures.1 in
+    omega (arith, l, word_fits a.k (omega arith))
+
+pub returns : goal.returns
+returns t c =
+    let a = c.args in
+    let w = c.word-rest in
+    let l = word_lt a.k c.wide.result w.result (omega arith) (omega (arith, c.wide.ensures, c.type_inv.s a.p)) w.ensures.1 in
+    (rw (word_at_more a.k a.s.now a.p (omega arith), c.wide.ensures, w.ensures.0), l)
