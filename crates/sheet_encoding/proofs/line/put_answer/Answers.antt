@@ -25,4 +25,4 @@ pub returns-in-Refused : goal.returns-in-Refused
 returns-in-Refused c =
     let a = c.args in
     let line = c.put_refused.ensures in
-    record { wrote = rw (← refused_line_lem binary64 a.task _ _ _ (reported a.outcome) (a.first.now ++ a.second.now ++ (a.smallest ∷ [])) (ap reported c.in-Refused.is ∙ c.code_of_lem.ensures)) line.0; short = omega (arith, line.1) }
+    record { wrote = rw (← refused_line_lem binary64 a.task _ _ _ (reported a.outcome) (a.first.now ++ a.second.now ++ (a.smallest ∷ [])) (ap reported c.in-Refused.is ∙ c.code_of.ensures)) line.wrote; short = omega (arith, line.upper_bound) }

@@ -9,6 +9,6 @@ pub returns : goal.returns
 returns c =
     let line = c.put_refused.ensures in
     record {
-      wrote = rw (← refused_line_lem binary64 0 _ _ _ (sheet_numbered c.args.why) [] c.sheet_code_of.ensures) line.0;
-      upper_bound = line.1;
+      wrote = rw (← refused_line_lem binary64 0 _ _ _ (sheet_numbered c.args.why) [] c.sheet_code_of.ensures) line.wrote;
+      upper_bound = line.upper_bound;
     }
