@@ -109,7 +109,6 @@ units_of f (fin t m e) s a c C v =
     div_same (m * up e * 2 ^ low f) (down e) (a * 2 ^ low f) c (down_pos e) C
     (mul_right_comm (m * up e) (2 ^ low f) c ∙ ap (λ (x : ℕ). x * 2 ^ low f) v.1 ∙ mul_right_comm a (down e) (2 ^ low f)) in
     λ i. cond (v.0 i) (top f) 0 + (size (q i) - prec f) * hid f + q i / 2 ^ (size (q i) - prec f)
-
 units_of f nan s a c C v = elim v [ ]
 units_of f (inf _) s a c C v = elim v [ ]
 

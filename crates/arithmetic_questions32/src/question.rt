@@ -1,5 +1,5 @@
 // The questions asked of a call, in their order: each finds that the call passes, or the refusal with its details.
-ghost use Rattle.std.specs.Prelude.{◌≡◌, ℕ, ◌*◌, ◌<◌, [], ◌∷◌, length, ◌==◌, nat_le};
+ghost use Rattle.std.specs.Prelude.{◌≡◌, [], ◌∷◌, ℕ, ◌*◌, ◌<◌, eqb, leb, length};
 ghost use Rattle.std.specs.Float.Ieee.{lt, le};
 ghost use Rattle.std.specs.Float.Ieee.Scale.{finite};
 ghost use Rattle.arithmetic_floats.specs.Float.{+zero};
@@ -69,7 +69,7 @@ pub fn ask_exponent(p: f32) -> Question
 // 10: is a matrix of order 1 a number above 0?
 pub fn ask_positive(rows: usize, a: &[f32]) -> Question
     requires { 0 < length a.now }
-    ensures { found result ≡ only_where (rows == 1) (ask_of (lt +zero (item a.now 0)) 10 0 0) }
+    ensures { found result ≡ only_where (eqb rows 1) (ask_of (lt +zero (item a.now 0)) 10 0 0) }
 {
     if rows != 1 {
         return Question::Passed;
@@ -80,7 +80,7 @@ pub fn ask_positive(rows: usize, a: &[f32]) -> Question
 // 10: is a matrix of order 1 a number that is at least 0?
 pub fn ask_nonnegative(rows: usize, a: &[f32]) -> Question
     requires { 0 < length a.now }
-    ensures { found result ≡ only_where (rows == 1) (ask_of (le +zero (item a.now 0)) 10 0 0) }
+    ensures { found result ≡ only_where (eqb rows 1) (ask_of (le +zero (item a.now 0)) 10 0 0) }
 {
     if rows != 1 {
         return Question::Passed;
@@ -135,7 +135,7 @@ pub fn ask_direction_shape(
 // 10 and 11 of a logarithm.
 pub fn ask_logarithm(rows: usize, a: &[f32]) -> Question
     requires { 0 < length a.now }
-    ensures { found result ≡ first_no (only_where (rows == 1) (ask_of (lt +zero (item a.now 0)) 10 0 0) ∷ ask_of (nat_le 2 rows) 11 0 0 ∷ []) }
+    ensures { found result ≡ first_no (only_where (eqb rows 1) (ask_of (lt +zero (item a.now 0)) 10 0 0) ∷ ask_of (leb 2 rows) 11 0 0 ∷ []) }
 {
     first_no(ask_positive(rows, a), ask_from_two(rows))
 }

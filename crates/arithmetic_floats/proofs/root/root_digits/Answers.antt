@@ -1,6 +1,6 @@
 -- `root_digits` meets its contract. What was read of the radicand is root * root + rem, with rem at most 2 * root, so root is the whole part of its root.
 -- Assumes nothing.
-use Rattle.std.proofs.Common.{◌≡◌, ℕ, ◌+◌, ◌-◌, ◌*◌, ◌%◌, ◌^◌, ◌<◌, ◌≤◌, sym, subst, subst₂, lt_of_lt_of_le, arith, pow_mono}
+use Rattle.std.proofs.Common.{◌≡◌, ℕ, ◌+◌, ◌*◌, ◌%◌, ◌^◌, ◌<◌, ◌≤◌, sym, subst, subst₂, lt_of_lt_of_le, arith, pow_mono}
 use Rattle.arithmetic_floats.proofs.Squares.{Reached, digit_one, digit_zero, is_whole_part}
 use Rattle.arithmetic_floats.proofs.root.root_digits.Goals as goal
 use Rattle.arithmetic_floats.proofs.root.root_digits.Goals.{then-trial-next, else-trial-next}
@@ -36,8 +36,8 @@ loop-i-preserved c =
     let P : ℕ → ℕ → Type 0 = λ r s. Reached m (l.i + 1) (l.rest * 4 % 2 ^ 64) r s in (
       omega arith,
       elim c.if-trial-next.branch [
-        then-trial-next w ↦ subst₂ P (sym w.root-is) (sym w.rem-is) (digit_one m l.i l.rest l.root l.rem l.invariant.1 w.if-trial-next.true)
-      | else-trial-next w ↦ subst₂ P (sym w.root-is) (sym w.rem-is) (digit_zero m l.i l.rest l.root l.rem l.invariant.1 w.if-trial-next.false)
+        | then-trial-next w ↦ subst₂ P (sym w.root-is) (sym w.rem-is) (digit_one m l.i l.rest l.root l.rem l.invariant.1 w.if-trial-next.true)
+        | else-trial-next w ↦ subst₂ P (sym w.root-is) (sym w.rem-is) (digit_zero m l.i l.rest l.root l.rem l.invariant.1 w.if-trial-next.false)
       ],
     )
 

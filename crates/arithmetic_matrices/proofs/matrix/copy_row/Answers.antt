@@ -1,5 +1,4 @@
 -- `copy_row` meets its contract, by the loop of stores. Assumes nothing.
-use Prim.Native.Nat.{◌-◌}
 use Rattle.arithmetic_matrices.proofs.LoopLaws.{stored_start, stored_turn0, copied_all}
 use Rattle.arithmetic_matrices.proofs.matrix.copy_row.Goals as goal
 

@@ -1,5 +1,4 @@
 -- `place` meets its contract, by the loop over the rows (`Placed`). Assumes nothing.
-use Prim.Native.Nat.{◌-◌}
 use native.Mathlib.Omega.{arith}
 use Rattle.arithmetic_matrices.proofs.LoopLaws.{placed_start, placed_fit, placed_lent, placed_turn, placed_end}
 use Rattle.arithmetic_matrices.proofs.matrix.place.Goals as goal

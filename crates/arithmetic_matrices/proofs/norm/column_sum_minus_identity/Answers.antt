@@ -1,8 +1,7 @@
 -- `column_sum_minus_identity` meets its contract, by a walk down the column and the loop of a sum. Assumes nothing.
-use Prim.Native.Nat.{◌+◌, ◌-◌, ◌*◌, ◌<◌}
+use Prim.Native.Nat.{◌+◌, ◌*◌, ◌<◌}
 use native.Mathlib.Omega.{arith}
 use lib.Ieee.{binary64}
-use Rattle.arithmetic_matrices.specs.Product.{minus_identity_entry}
 use Rattle.arithmetic_matrices.specs.Norm.{sum_of_magnitudes}
 use Rattle.arithmetic_matrices.proofs.LoopLaws.{down_start, down_turn, down_inside, partial_start, partial_turn, partial_end}
 use Rattle.arithmetic_matrices.proofs.norm.column_sum_minus_identity.Goals as goal

@@ -1,5 +1,5 @@
 -- `norm_1` meets its contract, by the loop of the largest column sum, two columns a turn. Assumes nothing.
-use Prim.Native.Nat.{◌-◌, ◌*◌}
+use Prim.Native.Nat.{◌*◌}
 use native.Mathlib.Omega.{arith}
 use mathlib.Core.Path.{sym, ◌∙◌}
 use lib.Ieee.{binary64}

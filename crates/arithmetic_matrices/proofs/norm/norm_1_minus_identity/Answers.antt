@@ -1,5 +1,5 @@
 -- `norm_1_minus_identity` meets its contract, by the loop of the largest column sum. Assumes nothing.
-use Prim.Native.Nat.{◌-◌, ◌*◌}
+use Prim.Native.Nat.{◌*◌}
 use native.Mathlib.Omega.{arith}
 use mathlib.Core.Path.{sym, ◌∙◌}
 use lib.Ieee.{binary64}

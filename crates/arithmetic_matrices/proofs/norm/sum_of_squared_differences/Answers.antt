@@ -1,5 +1,5 @@
 -- `sum_of_squared_differences` meets its contract, by the loop of a sum. Assumes nothing.
-use Prim.Native.Nat.{ℕ, ◌+◌, ◌-◌}
+use Prim.Native.Nat.{ℕ, ◌+◌}
 use mathlib.Core.List.{List}
 use lib.Ieee.{Float, binary64, sub}
 use Rattle.arithmetic_matrices.specs.Matrix.{item}

@@ -1,5 +1,4 @@
 -- `sum_of_squares` meets its contract, by the loop of a sum. Assumes nothing.
-use Prim.Native.Nat.{◌-◌}
 use lib.Ieee.{binary64}
 use Rattle.arithmetic_matrices.specs.Product.{dot}
 use Rattle.arithmetic_matrices.proofs.NormLaws.{squares_part}

@@ -1,5 +1,4 @@
 -- `sums_of_squares` meets its contract, by the loop of two sums. Assumes nothing.
-use Prim.Native.Nat.{◌-◌}
 use lib.Ieee.{binary64}
 use Rattle.arithmetic_matrices.specs.Product.{dot}
 use Rattle.arithmetic_matrices.proofs.NormLaws.{squares_part}

@@ -1,5 +1,5 @@
 -- `two_column_sums` meets its contract, by a walk down the first column and the loop of two sums. Assumes nothing.
-use Prim.Native.Nat.{ℕ, ◌+◌, ◌-◌, ◌*◌, ◌<◌}
+use Prim.Native.Nat.{ℕ, ◌+◌, ◌*◌, ◌<◌}
 use native.Mathlib.Omega.{arith}
 use mathlib.Core.Path.{◌∙◌, ap}
 use lib.Ieee.{Float, binary64}

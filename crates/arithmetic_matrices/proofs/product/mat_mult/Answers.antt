@@ -1,5 +1,5 @@
 -- `mat_mult` meets its contract. The invariant: the first i rows of the product are written, and nothing else is changed. Assumes nothing.
-use Prim.Native.Nat.{◌+◌, ◌-◌, ◌*◌, ◌≤◌}
+use Prim.Native.Nat.{◌+◌, ◌*◌, ◌≤◌}
 use native.Mathlib.Omega.{arith}
 use native.Mathlib.Nat.{zero-mul}
 use mathlib.Core.Path.{◌≡◌, refl, ◌∙◌}
@@ -30,8 +30,8 @@ pub mult_row-requires : goal.mult_row-requires
 mult_row-requires c =
     let r = (let it : c.loop-i.i * c.args.n + c.args.n ≤ c.args.n * c.args.n = row_end c.loop-i.i c.args.n c.args.n c.loop-i-test.true in it) in
     record {
-        n_bound = omega arith;
-        apart = (apart c, apart-b c);
+      n_bound = omega arith;
+      apart = (apart c, apart-b c);
     }
 
 pub overflow_add-x : goal.overflow_add-x

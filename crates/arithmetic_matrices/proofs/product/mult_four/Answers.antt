@@ -1,5 +1,5 @@
 -- `mult_four` meets its contract, by a walk down four columns and their sums. Assumes nothing.
-use Prim.Native.Nat.{◌+◌, ◌-◌, ◌*◌, ◌≤◌}
+use Prim.Native.Nat.{◌+◌, ◌*◌, ◌≤◌}
 use native.Mathlib.Omega.{arith}
 use mathlib.Core.Path.{◌≡◌, ◌∙◌}
 use Rattle.arithmetic_matrices.proofs.FourLaws.{strip_start, strip_turn, strip_inside, four_put, dots_start, dots_turn, dots_end}

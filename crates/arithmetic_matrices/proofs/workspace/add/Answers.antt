@@ -1,5 +1,4 @@
 -- `add` meets its contract, by the loop over the entries of a slot. Assumes nothing.
-use Prim.Native.Nat.{◌-◌}
 use native.Mathlib.Omega.{arith}
 use lib.Ieee.{binary64, add as sum_of}
 use Rattle.arithmetic_matrices.specs.Product.{add_m}

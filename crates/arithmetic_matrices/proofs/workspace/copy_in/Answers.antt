@@ -1,5 +1,4 @@
 -- `copy_in` meets its contract, by the loop of stores. Assumes nothing.
-use Prim.Native.Nat.{◌-◌}
 use Rattle.arithmetic_matrices.specs.Workspace.{store}
 use Rattle.arithmetic_matrices.proofs.LoopLaws.{stored_start, stored_turn, copied_end}
 use Rattle.arithmetic_matrices.proofs.workspace.copy_in.Goals as goal

@@ -1,5 +1,4 @@
 -- `copy_out` meets its contract, by the loop of stores. Assumes nothing.
-use Prim.Native.Nat.{◌-◌}
 use native.Mathlib.Omega.{arith}
 use mathlib.Core.Path.{refl}
 use Rattle.arithmetic_matrices.specs.Matrix.{part}

@@ -1,5 +1,5 @@
 -- `diagonal` meets its contract, by the loop over the rows of a slot. Assumes nothing.
-use Prim.Native.Nat.{◌+◌, ◌-◌, ◌*◌, ◌≤◌}
+use Prim.Native.Nat.{◌+◌, ◌*◌, ◌≤◌}
 use native.Mathlib.Omega.{arith}
 use Rattle.arithmetic_matrices.specs.Product.{diagonal_m}
 use Rattle.arithmetic_matrices.proofs.FilledLaws.{filled_inside}

@@ -1,5 +1,4 @@
 -- `diagonal_row` meets its contract, by the loop of stores. Assumes nothing.
-use Prim.Native.Nat.{◌-◌}
 use Rattle.arithmetic_matrices.proofs.LoopLaws.{stored_start, stored_turn, stored_end}
 use Rattle.arithmetic_matrices.proofs.workspace.diagonal_row.Goals as goal
 

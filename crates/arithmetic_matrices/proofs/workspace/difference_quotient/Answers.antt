@@ -1,5 +1,4 @@
 -- `difference_quotient` meets its contract, by the loop over the entries of a slot. Assumes nothing.
-use Prim.Native.Nat.{◌-◌}
 use native.Mathlib.Omega.{arith}
 use lib.Ieee.{binary64, sub, div}
 use Rattle.arithmetic_matrices.specs.Product.{difference_quotient_m}

@@ -1,5 +1,4 @@
 -- `mean` meets its contract, by the loop over the entries of a slot. Assumes nothing.
-use Prim.Native.Nat.{◌-◌}
 use native.Mathlib.Omega.{arith}
 use lib.Ieee.{binary64, add, mul}
 use Rattle.arithmetic_floats.proofs.Constants.{half_bits}

@@ -1,5 +1,5 @@
 -- `minus_identity` meets its contract, by a walk down the diagonal (`LessIdentity`). Assumes nothing.
-use Prim.Native.Nat.{◌+◌, ◌-◌, ◌*◌, ◌<◌}
+use Prim.Native.Nat.{◌+◌, ◌*◌, ◌<◌}
 use native.Mathlib.Omega.{arith}
 use lib.Ieee.{binary64}
 use Rattle.arithmetic_floats.proofs.Constants.{one_bits}

@@ -10,8 +10,8 @@ mat_mult-requires c =
     let pre = c.requires in
     let q = square_le c.args.n pre.room.order in
     record {
-        n_bound = omega arith;
-        apart = (slots_apart _ _ _ _ pre.a_bound.3 q q, slots_apart _ _ _ _ pre.a_bound.4 q q);
+      n_bound = omega arith;
+      apart = (slots_apart _ _ _ _ pre.a_bound.3 q q, slots_apart _ _ _ _ pre.a_bound.4 q q);
     }
 
 pub returns : goal.returns

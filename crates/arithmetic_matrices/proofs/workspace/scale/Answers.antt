@@ -1,5 +1,4 @@
 -- `scale` meets its contract, by the loop over the entries of a slot. Assumes nothing.
-use Prim.Native.Nat.{◌-◌}
 use native.Mathlib.Omega.{arith}
 use lib.Ieee.{binary64, mul}
 use Rattle.arithmetic_matrices.specs.Product.{times_m}

@@ -1,5 +1,4 @@
 -- `square` meets its contract. The invariant: so many squarings are done. Assumes nothing.
-use Prim.Native.Nat.{◌-◌}
 use native.Mathlib.Omega.{arith}
 use mathlib.Core.Path.{◌≡◌, ◌∙◌}
 use lib.Ieee.{binary64}
@@ -13,16 +12,16 @@ pub mult-requires : goal.mult-requires
 mult-requires c =
     let pre = c.requires in
     record {
-        room = room_kept pre.room c.loop-done.invariant.1.only.long;
-        a_bound = (pre.a_bound.0, pre.a_bound.0, pre.a_bound.1, pre.a_bound.2, pre.a_bound.2);
+      room = room_kept pre.room c.loop-done.invariant.1.only.long;
+      a_bound = (pre.a_bound.0, pre.a_bound.0, pre.a_bound.1, pre.a_bound.2, pre.a_bound.2);
     }
 
 pub copy-requires : goal.copy-requires
 copy-requires c =
     let pre = c.requires in
     record {
-        room = room_kept pre.room (c.mult.auto.w ∙ c.loop-done.invariant.1.only.long);
-        a_bound = (pre.a_bound.1, pre.a_bound.0, eqb_swap c.args.a c.args.t pre.a_bound.2);
+      room = room_kept pre.room (c.mult.auto.w ∙ c.loop-done.invariant.1.only.long);
+      a_bound = (pre.a_bound.1, pre.a_bound.0, eqb_swap c.args.a c.args.t pre.a_bound.2);
     }
 
 pub loop-done-preserved : goal.loop-done-preserved

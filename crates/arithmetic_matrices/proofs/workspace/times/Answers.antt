@@ -1,5 +1,4 @@
 -- `times` meets its contract, by the loop over the entries of a slot. Assumes nothing.
-use Prim.Native.Nat.{◌-◌}
 use native.Mathlib.Omega.{arith}
 use mathlib.Core.Path.{◌∙◌}
 use lib.Ieee.{binary64, mul}

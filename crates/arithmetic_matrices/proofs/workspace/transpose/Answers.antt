@@ -1,5 +1,5 @@
 -- `transpose` meets its contract, by the loop over the rows of a slot. Assumes nothing.
-use Prim.Native.Nat.{◌+◌, ◌-◌, ◌*◌, ◌≤◌}
+use Prim.Native.Nat.{◌+◌, ◌*◌, ◌≤◌}
 use native.Mathlib.Omega.{arith}
 use mathlib.Core.Path.{◌∙◌, ap}
 use Rattle.arithmetic_matrices.specs.Matrix.{put}
@@ -16,8 +16,8 @@ transpose_row-requires c =
     let few = c.loop-i.invariant.few in
     let r = (let it : c.loop-i.y + c.args.n ≤ 256 * c.args.c + c.args.n * c.args.n = filled_inside c.loop-i.invariant.filled c.loop-i-test.true in it) in
     record {
-        n_bound = omega arith;
-        apart = apart_within _ _ _ _ _ _ _ _ (slots_apart c.args.a c.args.c _ _ c.requires.a_bound.2 few few) (omega arith) (omega arith) (omega arith) (omega arith);
+      n_bound = omega arith;
+      apart = apart_within _ _ _ _ _ _ _ _ (slots_apart c.args.a c.args.c _ _ c.requires.a_bound.2 few few) (omega arith) (omega arith) (omega arith) (omega arith);
     }
 
 pub loop-i-preserved : goal.loop-i-preserved

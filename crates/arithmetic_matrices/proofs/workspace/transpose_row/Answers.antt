@@ -1,5 +1,5 @@
 -- `transpose_row` meets its contract, by a walk down the column and the loop of stores. Assumes nothing.
-use Prim.Native.Nat.{◌+◌, ◌-◌, ◌*◌, ◌<◌}
+use Prim.Native.Nat.{◌+◌, ◌*◌, ◌<◌}
 use native.Mathlib.Omega.{arith}
 use mathlib.Core.Path.{◌∙◌, ap}
 use Rattle.arithmetic_matrices.specs.Matrix.{item}

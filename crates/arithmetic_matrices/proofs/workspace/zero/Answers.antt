@@ -1,5 +1,4 @@
 -- `zero` meets its contract, by the loop over the entries of a slot. Assumes nothing.
-use Prim.Native.Nat.{◌-◌}
 use native.Mathlib.Omega.{arith}
 use lib.Ieee.{binary64}
 use Rattle.arithmetic_floats.proofs.Constants.{+zero_bits}

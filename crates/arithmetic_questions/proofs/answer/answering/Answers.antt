@@ -12,8 +12,8 @@ unfolding report_at exit
 returns-in-Done c =
     let a = c.args in
     record {
-        outcome_value = sym c.in-Done.is;
-        report_value = sym (ap (λ (z : Outcome). report_at (reported z) a.report) c.in-Done.is);
+      outcome_value = sym c.in-Done.is;
+      report_value = sym (ap (λ (z : Outcome). report_at (reported z) a.report) c.in-Done.is);
     }
 
 pub returns-in-Refused : goal.returns-in-Refused
@@ -22,6 +22,6 @@ returns-in-Refused c =
     let a = c.args in
     let (i, j, l, n) = as_refused c.in-Refused.why in
     record {
-        outcome_value = sym c.in-Refused.is;
-        report_value = c.refused_report.ensures ∙ sym (ap (λ (z : Outcome). report_at (reported z) a.report) c.in-Refused.is ∙ ap (λ (z : Result (Unit {0})). report_at z a.report) n);
+      outcome_value = sym c.in-Refused.is;
+      report_value = c.refused_report.ensures ∙ sym (ap (λ (z : Outcome). report_at (reported z) a.report) c.in-Refused.is ∙ ap (λ (z : Result (Unit {0})). report_at z a.report) n);
     }

@@ -5,6 +5,6 @@ use Rattle.arithmetic_questions.proofs.answer.done.Goals as goal
 pub returns : goal.returns
 returns c =
     record {
-        outcome_value = refl;
-        report_value = c.nothing.ensures;
+      outcome_value = refl;
+      report_value = c.nothing.ensures;
     }

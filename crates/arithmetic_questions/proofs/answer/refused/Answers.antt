@@ -5,6 +5,6 @@ use Rattle.arithmetic_questions.proofs.answer.refused.Goals as goal
 pub returns : goal.returns
 returns c =
     record {
-        outcome_value = refl;
-        report_value = c.refused_report.ensures;
+      outcome_value = refl;
+      report_value = c.refused_report.ensures;
     }

@@ -1,7 +1,7 @@
 -- `ask_frechet_expm` meets its contract. Assumes nothing.
 use mathlib.Core.Path.{sym, ◌∙◌}
 use mathlib.Core.List.{[], ◌∷◌}
-use Rattle.arithmetic_questions.specs.Questions.{Call, binary, of_frechet_expm, direction, without_exponent, anywhere, every_order}
+use Rattle.arithmetic_questions.specs.Questions.{Call, binary, of_frechet_expm, without_exponent, anywhere, every_order}
 use Rattle.arithmetic_questions.proofs.QuestionLaws.{told, single, joined, all_yes, beside_shape, directed_shape, shape_no, shape_passed, numbers_directed}
 use Rattle.arithmetic_questions.proofs.question.ask_frechet_expm.Goals as goal
 

@@ -40,8 +40,8 @@ returns-in-No c =
     let q = c.refused in
     let O = one_refused of_sqrtm call _ c.ask_sqrtm.ensures c.args.clears q.result.outcome _ _ (square_root binary64 c.args.rows c.args.a.now) _ c.in-No.is q.ensures.outcome_value in
     record {
-        one_output_with = O;
-        report_value = report_refused _ (root_report binary64 c.args.rows c.args.a.now) q.result.report q.result.outcome c.in-No.why O.outcome q.ensures.outcome_value q.ensures.report_value;
+      one_output_with = O;
+      report_value = report_refused _ (root_report binary64 c.args.rows c.args.a.now) q.result.report q.result.outcome c.in-No.why O.outcome q.ensures.outcome_value q.ensures.report_value;
     }
 
 pub returns-in-Passed : goal.returns-in-Passed
@@ -54,7 +54,7 @@ returns-in-Passed c =
     let O = one_done of_sqrtm call _ c.ask_sqrtm.ensures c.args.clears d.result.outcome _ _ (0 ∷ 1 ∷ 2 ∷ 3 ∷ 4 ∷ 5 ∷ []) c.args.rows (square_root binary64 c.args.rows) c.args.a.now _ _ _ _ _
     c.in-Passed.is (late-root binary64 c.args.rows c.args.a.now) (omega (arith, h.small)) h.room h.long h.outputs.0 refl c.copy_in.ensures root.ensures.replaced d.ensures.delivered in
     record {
-        one_output_with = O;
-        report_value = report_delivered _ _ (root_report binary64 c.args.rows) root.result.report d.result.report d.result.outcome root.result.outcome c.args.rows c.args.a.now c.args.w.now _
+      one_output_with = O;
+      report_value = report_delivered _ _ (root_report binary64 c.args.rows) root.result.report d.result.report d.result.outcome root.result.outcome c.args.rows c.args.a.now c.args.w.now _
           (omega (arith, square_le c.args.rows (omega (arith, h.small)), h.room)) h.long c.copy_in.ensures O.outcome root.ensures.replaced.outcome d.ensures.delivered.outcome root.ensures.report_value d.ensures.report_value;
     }

@@ -18,8 +18,8 @@ use Rattle.functions_trigonometric.proofs.sine.sinm_in.Goals as goal
 pub sine_at-requires : goal.sine_at-requires
 sine_at-requires c =
     record {
-        room = c.requires;
-        s_bound = halvings_few _ _ (sym c.halvings_for.ensures ∙ ap reported c.in-Done.is);
+      room = c.requires;
+      s_bound = halvings_few _ _ (sym c.halvings_for.ensures ∙ ap reported c.in-Done.is);
     }
 
 pub returns-in-Refused : goal.returns-in-Refused
@@ -31,8 +31,8 @@ returns-in-Refused c =
     let no = c.refused in
     let R = halved_none (0 ∷ 1 ∷ 2 ∷ 3 ∷ 4 ∷ 5 ∷ []) a.n (λ s. sine_at binary64 a.n s x) (add binary64 (norm1 binary64 a.n x) one) c.halvings_for.result H a.w.now _ no.result.outcome c.in-Refused.is no.ensures.outcome_value in
     record {
-        replaced = R;
-        report_value = report_refused _ nothing no.result.report no.result.outcome c.in-Refused.why R.outcome no.ensures.outcome_value no.ensures.report_value;
+      replaced = R;
+      report_value = report_refused _ nothing no.result.report no.result.outcome c.in-Refused.why R.outcome no.ensures.outcome_value no.ensures.report_value;
     }
 
 pub returns-in-Done : goal.returns-in-Done
@@ -44,6 +44,6 @@ returns-in-Done c =
     let d = c.done in
     let R = halved_done (0 ∷ 1 ∷ 2 ∷ 3 ∷ 4 ∷ 5 ∷ []) a.n (λ s. sine_at binary64 a.n s x) (add binary64 (norm1 binary64 a.n x) one) c.halvings_for.result H a.w.now _ d.result.outcome c.sine_at.new.w c.in-Done.is d.ensures.outcome_value c.sine_at.ensures.result c.sine_at.ensures.only in
     record {
-        replaced = R;
-        report_value = d.ensures.report_value ∙ report_done _ _ _ (sym d.ensures.outcome_value ∙ R.outcome);
+      replaced = R;
+      report_value = d.ensures.report_value ∙ report_done _ _ _ (sym d.ensures.outcome_value ∙ R.outcome);
     }

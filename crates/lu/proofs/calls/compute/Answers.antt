@@ -36,8 +36,8 @@ returns-in-No c =
     let a = c.args in
     let R = compute_refused binary64 a.rows a.columns a.a.now a.factors.now a.pivots.now a.w.now asked.result asked.ensures c.refused.result.outcome _ c.in-No.is c.refused.ensures.outcome_value in
     record {
-        computed = R;
-        report_value = report_refused _ (factored (smallest_pivot binary64 a.rows a.a.now)) _ c.refused.result.outcome c.in-No.why R.outcome c.refused.ensures.outcome_value c.refused.ensures.report_value;
+      computed = R;
+      report_value = report_refused _ (factored (smallest_pivot binary64 a.rows a.a.now)) _ c.refused.result.outcome c.in-No.why R.outcome c.refused.ensures.outcome_value c.refused.ensures.report_value;
     }
 
 pub returns-in-Passed : goal.returns-in-Passed
@@ -52,6 +52,6 @@ returns-in-Passed c =
     let ρ = compute_report binary64 a.rows a.columns a.a.now a.factors.now a.pivots.now a.w.now asked.result asked.ensures r.result.outcome
     d.new.factors d.new.pivots d.new.w d.result r.result.report s.system.matrix d.ensures R.outcome r.ensures.outcome_value r.ensures.report_value in
     record {
-        computed = R;
-        report_value = ρ;
+      computed = R;
+      report_value = ρ;
     }

@@ -34,9 +34,9 @@ returns-in-No c =
     let o = ap reported v.0 ∙ e.outcome_value in
     let R = o ∙ sym (outcome_no of_determinant call r asked.result asked.ensures _ no) in
     record {
-        outcome_value = R;
-        value_value = v.1 ∙ +zero_bits binary64 ∙ sym (exit_no of_determinant call r asked.result asked.ensures _ no (λ d. d) +zero);
-        report_value = report_refused (answer of_determinant call r) nothing _ c.valued.result.outcome c.in-No.why R o (v.2 ∙ e.report_value);
+      outcome_value = R;
+      value_value = v.1 ∙ +zero_bits binary64 ∙ sym (exit_no of_determinant call r asked.result asked.ensures _ no (λ d. d) +zero);
+      report_value = report_refused (answer of_determinant call r) nothing _ c.valued.result.outcome c.in-No.why R o (v.2 ∙ e.report_value);
     }
 
 pub returns-in-Passed : goal.returns-in-Passed
@@ -50,7 +50,7 @@ returns-in-Passed c =
     let v = c.valued-in-Passed.ensures in
     let d = c.done.ensures in
     record {
-        outcome_value = ap reported v.0 ∙ d.outcome_value ∙ sym (ap outcome e);
-        value_value = v.1 ∙ c.determinant-value.ensures ∙ sym (ap (λ (z : Result Float). exit (λ d. d) z +zero) e);
-        report_value = v.2 ∙ d.report_value ∙ report_done (answer of_determinant call r) nothing 0 (sym (ap outcome e));
+      outcome_value = ap reported v.0 ∙ d.outcome_value ∙ sym (ap outcome e);
+      value_value = v.1 ∙ c.determinant-value.ensures ∙ sym (ap (λ (z : Result Float). exit (λ d. d) z +zero) e);
+      report_value = v.2 ∙ d.report_value ∙ report_done (answer of_determinant call r) nothing 0 (sym (ap outcome e));
     }

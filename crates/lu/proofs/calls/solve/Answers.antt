@@ -27,8 +27,8 @@ returns-in-No c =
     let R = output_refused of_solve (solve_call a.rows a.columns a.f.now a.pivots.now a.height a.width a.b.now (length a.out.now)) asked.result asked.ensures c.refused.result.outcome a.out.now
     (done 0 (solved_matrix binary64 a.rows a.width a.f.now a.pivots.now a.b.now)) _ c.in-No.is c.refused.ensures.outcome_value in
     record {
-        one_output = R;
-        report_value = report_refused _ nothing _ c.refused.result.outcome c.in-No.why R.outcome c.refused.ensures.outcome_value c.refused.ensures.report_value;
+      one_output = R;
+      report_value = report_refused _ nothing _ c.refused.result.outcome c.in-No.why R.outcome c.refused.ensures.outcome_value c.refused.ensures.report_value;
     }
 
 pub returns-in-Passed : goal.returns-in-Passed
@@ -39,6 +39,6 @@ returns-in-Passed c =
     let R = output_done of_solve (solve_call a.rows a.columns a.f.now a.pivots.now a.height a.width a.b.now (length a.out.now)) asked.result asked.ensures c.done.result.outcome a.out.now
     0 (solved_matrix binary64 a.rows a.width a.f.now a.pivots.now a.b.now) _ c.in-Passed.is c.done.ensures.outcome_value c.solve_into.ensures in
     record {
-        one_output = R;
-        report_value = c.done.ensures.report_value ∙ report_done _ nothing 0 (sym c.done.ensures.outcome_value ∙ R.outcome);
+      one_output = R;
+      report_value = c.done.ensures.report_value ∙ report_done _ nothing 0 (sym c.done.ensures.outcome_value ∙ R.outcome);
     }

@@ -8,8 +8,8 @@ pub returns-in-Factored : goal.returns-in-Factored
 unfolding report_at exit
 returns-in-Factored c =
     rw c.in-Factored.is record {
-        outcome_value = refl;
-        report_value = c.factored.ensures ∙ ap factored c.smallest_pivot.ensures;
+      outcome_value = refl;
+      report_value = c.factored.ensures ∙ ap factored c.smallest_pivot.ensures;
     }
 
 pub returns-in-Singular : goal.returns-in-Singular

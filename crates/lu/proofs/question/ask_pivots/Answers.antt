@@ -1,6 +1,5 @@
 -- `ask_pivots` meets its contract. The loop's invariant: the question is that of the pivots from k on. Assumes nothing.
 use native.Mathlib.Omega.{arith}
-use Prim.Native.Nat.{◌-◌}
 use mathlib.Core.Path.{refl, sym, ◌∙◌}
 use Rattle.lu.proofs.LuQuestionLaws.{pivots_more, pivots_stop, pivots_end}
 use Rattle.lu.proofs.question.ask_pivots.Goals as goal

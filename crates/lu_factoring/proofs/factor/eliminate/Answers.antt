@@ -1,5 +1,4 @@
 -- `eliminate` meets its contract, by the loop over the rows (`EliminatedTo` of LuLoop). Assumes nothing.
-use Prim.Native.Nat.{◌-◌}
 use lib.Ieee.{binary64, div}
 use Rattle.arithmetic_floats.proofs.Constants.{one_bits}
 use Rattle.lu_factoring.proofs.LuLoop.{eliminated_start, eliminated_turn, eliminated_end}

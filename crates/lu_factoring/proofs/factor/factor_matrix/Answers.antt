@@ -1,5 +1,4 @@
 -- `factor_matrix` meets its contract, by the loop over the columns (`Columns` of LuLoop). The measure is what is left of the columns. Assumes nothing.
-use Prim.Native.Nat.{◌-◌}
 use lib.Ieee.{binary64}
 use Rattle.lu_factoring.proofs.LuLoop.{columns_start, columns_refused, columns_passed, columns_end}
 use Rattle.lu_factoring.proofs.factor.factor_matrix.Goals as goal

@@ -1,5 +1,4 @@
 -- `find_pivot` meets its contract, by the search of the pivot (`PivotSearch` of LuLoop). Assumes nothing.
-use Prim.Native.Nat.{◌-◌}
 use Rattle.lu_factoring.proofs.LuLoop.{pivot_start, pivot_new, pivot_kept, pivot_end}
 use Rattle.lu_factoring.proofs.factor.find_pivot.Goals as goal
 use Rattle.lu_factoring.proofs.factor.find_pivot.Goals.{then-best-v, else-best-v}
@@ -11,8 +10,8 @@ loop-i-preserved c =
     let e = c.magnitude-v.ensures.value in
     let u = c.entry-in-loop-i.ensures in
     elim c.if-best-v.branch [
-      then-best-v w ↦ pivot_new s h e u w.if-best-v.true w.p-is w.best-is
-    | else-best-v w ↦ pivot_kept s h e u w.if-best-v.false w.p-is w.best-is
+      | then-best-v w ↦ pivot_new s h e u w.if-best-v.true w.p-is w.best-is
+      | else-best-v w ↦ pivot_kept s h e u w.if-best-v.false w.p-is w.best-is
     ]
 
 pub returns : goal.returns

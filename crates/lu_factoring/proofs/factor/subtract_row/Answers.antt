@@ -1,5 +1,4 @@
 -- `subtract_row` meets its contract, by the loop over the columns of the row (`SubtractedTo` of LuLoop). Assumes nothing.
-use Prim.Native.Nat.{◌-◌}
 use Rattle.lu_factoring.proofs.LuLoop.{subtracted_start, subtracted_turn, subtracted_end}
 use Rattle.lu_factoring.proofs.factor.subtract_row.Goals as goal
 

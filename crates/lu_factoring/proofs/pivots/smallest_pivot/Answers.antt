@@ -1,5 +1,4 @@
 -- `smallest_pivot` meets its contract, by the search on the diagonal (`SmallestTo` of PivotLaws). Assumes nothing.
-use Prim.Native.Nat.{◌-◌}
 use native.Mathlib.Omega.{arith}
 use lib.Ieee.{div, of_bits}
 use Rattle.arithmetic_matrices.proofs.MatrixLaws.{index_lt}

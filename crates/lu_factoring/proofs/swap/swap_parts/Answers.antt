@@ -1,5 +1,4 @@
 -- `swap_parts` meets its contract, by the loop over the pairs of numbers (`Swapped` of RowLaws). Assumes nothing.
-use Prim.Native.Nat.{◌-◌}
 use native.Mathlib.Omega.{arith}
 use lib.ListN.{length-set}
 use Rattle.lu_factoring.proofs.RowLaws.{swapped_start, swapped_turn, swapped_end}

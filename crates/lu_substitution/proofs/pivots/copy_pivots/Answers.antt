@@ -1,5 +1,4 @@
 -- `copy_pivots` meets its contract. The invariant: the first k are copied. Assumes nothing.
-use Prim.Native.Nat.{◌-◌}
 use mathlib.Core.Path.{◌≡◌, refl, ◌∙◌}
 use lib.ListN.{length, length-set}
 use Rattle.arithmetic_matrices.proofs.MatrixLaws.{tab-get_or}

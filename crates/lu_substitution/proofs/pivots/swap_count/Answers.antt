@@ -1,5 +1,4 @@
 -- `swap_count` meets its contract, by the steps over the pivots. Assumes nothing.
-use Prim.Native.Nat.{◌-◌}
 use mathlib.Core.Path.{refl}
 use mathlib.Core.Bool.{true, false}
 use native.Mathlib.Omega.{arith}
@@ -23,8 +22,8 @@ loop-k-preserved c =
     let h = c.loop-k-test.true in
     let one_more = swaps_turn ps l.k l.c c.if-pivots-k.c p l.invariant.1.value refl in
     elim c.if-pivots-k.branch [
-      then-pivots-k w ↦ (omega (arith, w.c-is), steps_turn l.invariant.1 h (one_more false (ne_eqb p l.k w.if-pivots-k.true) w.c-is))
-    | else-pivots-k w ↦ (omega (arith, w.c-is), steps_turn l.invariant.1 h (one_more true (eq-eqb p l.k w.if-pivots-k.false) (omega (arith, w.c-is))))
+      | then-pivots-k w ↦ (omega (arith, w.c-is), steps_turn l.invariant.1 h (one_more false (ne_eqb p l.k w.if-pivots-k.true) w.c-is))
+      | else-pivots-k w ↦ (omega (arith, w.c-is), steps_turn l.invariant.1 h (one_more true (eq-eqb p l.k w.if-pivots-k.false) (omega (arith, w.c-is))))
     ]
 
 pub returns : goal.returns

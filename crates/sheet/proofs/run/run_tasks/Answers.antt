@@ -1,5 +1,5 @@
 -- `run_tasks` meets its contract: after k tasks their k lines are written, of at most `line_limit` bytes each. Assumes nothing.
-use Prim.Native.Nat.{◌*◌, ◌-◌}
+use Prim.Native.Nat.{◌*◌}
 use mathlib.Core.Path.{◌≡◌, refl, ap, ◌∙◌}
 use lib.ListN.{length}
 use lib.Ieee.{binary64}

@@ -1,6 +1,5 @@
 -- `byte_in` meets its contract. Assumes nothing.
 use mathlib.Core.Path.{◌∙◌}
-use native.Mathlib.Omega.{arith}
 use lib.ListN.{length}
 use borrow.Author.Tests.{lt-ltb, le-ltb}
 use Rattle.sheet_encoding.specs.Parse.{byte_in}
@@ -10,8 +9,8 @@ pub returns-then-s-p : goal.returns-then-s-p
 unfolding byte_in
 returns-then-s-p c =
     let a = c.args in record {
-        value = simp (le-ltb a.p (length a.s.now) c.if-s-p.true);
-        result_bound = λ h. h;
+      value = simp (le-ltb a.p (length a.s.now) c.if-s-p.true);
+      result_bound = λ h. h;
     }
 
 pub returns : goal.returns
@@ -20,6 +19,6 @@ returns c =
     let a = c.args in
     let v = c.value_in.ensures in
     record {
-        value = v.value ∙ simp (lt-ltb a.p (length a.s.now) c.if-s-p.false);
-        result_bound = v.result_bound;
+      value = v.value ∙ simp (lt-ltb a.p (length a.s.now) c.if-s-p.false);
+      result_bound = v.result_bound;
     }

@@ -1,6 +1,5 @@
 -- `read_numbers` meets its contract. Assumes nothing.
 use native.Mathlib.Omega.{arith}
-use Prim.Native.Nat.{◌-◌}
 use mathlib.Core.Path.{refl}
 use lib.ListN.{length-set}
 use lib.Ieee.{binary64}

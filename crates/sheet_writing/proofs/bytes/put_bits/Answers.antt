@@ -1,5 +1,4 @@
 -- `put_bits` meets its contract. Assumes nothing.
-use Prim.Native.Nat.{◌-◌}
 use mathlib.Core.Path.{◌≡◌, refl, sym}
 use native.Mathlib.Omega.{arith}
 use Rattle.sheet_encoding.proofs.WroteLaws.{wrote_none, wrote_more}

@@ -1,0 +1,20 @@
+-- `ask_expm` meets its contract. Assumes nothing.
+use mathlib.Core.List.{[], ◌∷◌}
+use Rattle.arithmetic_questions.specs.Result.{◌>>=◌, first_no}
+use Rattle.arithmetic_questions.specs.Questions.{unary, without_companion, without_exponent, anywhere, orders_from_two}
+use Rattle.arithmetic_questions.proofs.QuestionLaws.{single, rest_no, rest_asked}
+use Rattle.arithmetic_questions32.proofs.question.ask_expm.Goals as goal
+
+pub returns-in_default : goal.returns-in_default
+returns-in_default c =
+    let a = c.args in
+    let matrix = c.ask_matrix-matrix in
+    rest_no without_companion without_exponent anywhere orders_from_two (unary a.rows a.columns a.a.now (a.out ∷ []) a.room) matrix.result matrix.ensures c.in_default.is
+
+pub returns : goal.returns
+unfolding first_no ◌>>=◌
+returns c =
+    let a = c.args in
+    let matrix = c.ask_matrix-matrix in
+    rest_asked without_companion without_exponent anywhere orders_from_two (unary a.rows a.columns a.a.now (a.out ∷ []) a.room) matrix.result matrix.ensures c.ask_from_two.result c.in-Passed.is
+    (single c.ask_from_two.result c.ask_from_two.ensures).asks

@@ -1,0 +1,19 @@
+-- `exponential_in` meets its contract. Assumes nothing.
+use mathlib.Core.Path.{ap, ◌∙◌}
+use lib.Ieee.{Float, binary32}
+use Rattle.arithmetic_matrices.specs.Product.{times_m}
+use Rattle.arithmetic_matrices.specs.Workspace.{slot, store}
+use Rattle.functions_exponential.proofs.ExponentialLaws.{exponential_steps, scaled_reported}
+use Rattle.functions_exponential32.proofs.exponential.exponential_in.Goals as goal
+
+pub returns : goal.returns
+returns c =
+    let square1 = c.square in
+    let pade1 = c.pade-report in
+    let scale1 = c.scale in
+    let a = c.args in
+    let e1 = scale1.ensures ∙ ap (λ (b : Float). store a.w.now 0 (times_m binary32 a.n b (slot a.n a.w.now 0))) c.inverse_power_of_two.ensures in
+    record {
+      exponentiated = exponential_steps binary32 a.n a.w.now c.requires.room a.s scale1.new.w pade1.new.w square1.new.w e1 pade1.ensures.approximated square1.ensures;
+      value = scaled_reported binary32 a.n a.w.now c.requires.room a.s scale1.new.w pade1.result e1 pade1.ensures.value;
+    }

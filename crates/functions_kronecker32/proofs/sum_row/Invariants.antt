@@ -1,0 +1,12 @@
+-- `sum_row` meets its contract, by the loop over the parts of the row. Assumes nothing.
+use Prim.Native.Nat.{◌-◌}
+use lib.Ieee.{binary32}
+use Rattle.functions_kronecker.specs.Kernels.{kron_sum_entry}
+use Rattle.arithmetic_matrices.proofs.FilledLaws.{Filled}
+use Rattle.functions_kronecker32.proofs.sum_row.Given as goal
+
+abbrev pub invariant-loop-j : goal.invariant-loop-j
+invariant-loop-j l = Filled l.initial.out l.y l.m l.p (λ c. kron_sum_entry binary32 l.m l.a l.p l.b l.i c l.k) l.z l.out l.j
+
+abbrev pub decreases-loop-j : goal.decreases-loop-j
+decreases-loop-j l = l.m - l.j

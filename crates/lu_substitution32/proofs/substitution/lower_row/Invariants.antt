@@ -1,0 +1,14 @@
+-- `lower_row` meets its contract. The invariant: the first j numbers of the row are written, and nothing else is changed. Assumes nothing.
+use Prim.Native.Nat.{◌-◌, ◌≤◌}
+use mathlib.Core.Path.{◌≡◌}
+use lib.ListN.{length}
+use lib.Ieee.{binary32}
+use Rattle.arithmetic_matrices.specs.Matrix.{tab, put}
+use Rattle.lu_systems.specs.Kernels.{lower_entry, row_at, column_at}
+use Rattle.lu_substitution32.proofs.substitution.lower_row.Given as goal
+
+abbrev pub invariant-loop-j : goal.invariant-loop-j
+invariant-loop-j l = (l.j ≤ l.m) × (length l.x ≡ length l.initial.x) × (l.x ≡ put l.initial.x l.y (tab l.j (lower_entry binary32 l.k (row_at l.f l.q) (column_at l.m l.initial.x 0) (row_at l.initial.x l.y))))
+
+abbrev pub decreases-loop-j : goal.decreases-loop-j
+decreases-loop-j l = l.m - l.j
