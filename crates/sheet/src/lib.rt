@@ -1,4 +1,4 @@
-// The exported entries: one runs a sheet's tasks and writes a line for each, the other writes a sheet from its sections.
+// The two entries, which sheet_c exports: one runs a sheet's tasks and writes a line for each, the other writes a sheet from its sections.
 #![tactic(auto)]
 
 ghost use Rattle.std.specs.Prelude.{◌≡◌, length};
@@ -16,8 +16,7 @@ pub use sheet_writing::{Written, write_sheet};
 
 // The lines of the sheet's tasks are written to out, and the number of bytes written is reported. An out of fewer than 35,500 bytes is refused
 // before the sheet is read: 0 is reported, and no byte written.
-#[unsafe(no_mangle)]
-pub extern "C" fn axis_sheet(sheet: &[u8], out: &mut [u8]) -> usize
+pub fn axis_sheet(sheet: &[u8], out: &mut [u8]) -> usize
     ensures { Entered binary64 sheet.now out.old out.new result }
 {
     if out.len() < 35500 {
@@ -28,8 +27,7 @@ pub extern "C" fn axis_sheet(sheet: &[u8], out: &mut [u8]) -> usize
 
 // `write_sheet` for another language: the length of the sheet is reported, and 0 beside a refusal, whose number and details are left in why. Where the sheet
 // is written, why has three zeros.
-#[unsafe(no_mangle)]
-pub extern "C" fn axis_write(
+pub fn axis_write(
     order: usize,
     matrix: &[u64],
     directions: usize,
