@@ -1,5 +1,4 @@
 -- `kron_part` meets its contract, by the loop of stores. Assumes nothing.
-use Prim.Native.Nat.{◌-◌}
 use Rattle.arithmetic_matrices.specs.Matrix.{at}
 use Rattle.arithmetic_matrices.proofs.LoopLaws.{stored_start, stored_turn, stored_end}
 use Rattle.functions_kronecker32.proofs.kron_part.Goals as goal

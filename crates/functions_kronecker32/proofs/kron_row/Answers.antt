@@ -1,5 +1,5 @@
 -- `kron_row` meets its contract, by the loop over the parts of the row. Assumes nothing.
-use Prim.Native.Nat.{◌+◌, ◌-◌, ◌*◌, ◌≤◌}
+use Prim.Native.Nat.{◌+◌, ◌*◌, ◌≤◌}
 use native.Mathlib.Omega.{arith}
 use Rattle.arithmetic_matrices.specs.Matrix.{at}
 use Rattle.functions_kronecker.specs.Kernels.{kron_entry}

@@ -1,5 +1,4 @@
 -- `kron_rows` meets its contract, by the loop over the rows of the blocks. Assumes nothing.
-use Prim.Native.Nat.{◌-◌}
 use native.Mathlib.Omega.{arith}
 use Rattle.arithmetic_matrices.proofs.MatrixLaws.{row_end}
 use Rattle.arithmetic_matrices.proofs.FilledLaws.{filled_start, filled_inside, filled_turn, filled_end}

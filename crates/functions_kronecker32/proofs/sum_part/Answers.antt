@@ -1,9 +1,7 @@
 -- `sum_part` meets its contract, by the loop of stores. Assumes nothing.
-use Prim.Native.Nat.{◌-◌}
 use lib.Ieee.{binary32}
 use Rattle.arithmetic_floats.proofs.Constants.{one_bits}
 use Rattle.arithmetic_matrices.specs.Matrix.{at}
-use Rattle.arithmetic_matrices.specs.Product.{diagonal_entry}
 use Rattle.arithmetic_matrices.proofs.LoopLaws.{stored_start, stored_turn, stored_end}
 use Rattle.functions_kronecker32.proofs.sum_part.Goals as goal
 

@@ -1,5 +1,5 @@
 -- `sum_row` meets its contract, by the loop over the parts of the row. Assumes nothing.
-use Prim.Native.Nat.{◌+◌, ◌-◌, ◌*◌, ◌≤◌}
+use Prim.Native.Nat.{◌+◌, ◌*◌, ◌≤◌}
 use native.Mathlib.Omega.{arith}
 use lib.Ieee.{binary32}
 use Rattle.arithmetic_floats.proofs.Constants.{one_bits}

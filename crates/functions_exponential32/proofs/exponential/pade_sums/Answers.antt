@@ -1,5 +1,4 @@
 -- `pade_sums` meets its contract, by the loop over the terms (`PadeTerms` of ExponentialLaws). Assumes nothing.
-use Prim.Native.Nat.{◌-◌}
 use mathlib.Core.Path.{refl}
 use native.Mathlib.Omega.{arith}
 use lib.Ieee.{binary32}

@@ -1,5 +1,4 @@
 -- `add_terms` meets its contract, by the loop over the terms (`Passing` of PassLaws). The measure is what is left of 59. Assumes nothing.
-use Prim.Native.Nat.{◌-◌}
 use native.Mathlib.Omega.{arith}
 use mathlib.Core.Path.{refl, ap, ◌∙◌}
 use lib.Ieee.{binary32}

@@ -1,5 +1,4 @@
 -- `take_roots` meets its contract, by the loop over the roots (`Rooting` of LogarithmLaws). The measure is what is left of 100. Assumes nothing.
-use Prim.Native.Nat.{◌-◌}
 use native.Mathlib.Omega.{arith}
 use Rattle.arithmetic_matrices.proofs.Slots.{room_kept}
 use Rattle.functions_logarithms.proofs.LogarithmLaws.{rooting_start, rooting_more, rooting_stops, rooting_fails, rooting_out, out_fits}

@@ -1,5 +1,4 @@
 -- `newton_passes` meets its contract, by the loop over the passes (`Reporting` of PassLaws). The measure is what is left of 100. Assumes nothing.
-use Prim.Native.Nat.{◌-◌}
 use native.Mathlib.Omega.{arith}
 use Rattle.arithmetic_matrices.proofs.Slots.{room_kept}
 use Rattle.arithmetic_questions.proofs.ReportLaws.{same_steps}

@@ -1,5 +1,4 @@
 -- `sylvester_part` meets its contract, by the loop of stores. Assumes nothing.
-use Prim.Native.Nat.{◌-◌}
 use lib.Ieee.{binary32}
 use Rattle.arithmetic_floats.proofs.Constants.{+zero_bits}
 use Rattle.arithmetic_matrices.proofs.LoopLaws.{stored_start, stored_turn, stored_end}

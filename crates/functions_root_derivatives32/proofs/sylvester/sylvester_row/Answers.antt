@@ -1,5 +1,5 @@
 -- `sylvester_row` meets its contract, by the loop over the parts of the row. Assumes nothing.
-use Prim.Native.Nat.{◌+◌, ◌-◌, ◌*◌, ◌≤◌}
+use Prim.Native.Nat.{◌+◌, ◌*◌, ◌≤◌}
 use native.Mathlib.Omega.{arith}
 use Rattle.functions_definitions.specs.Derivatives.{sylvester_entry}
 use Rattle.arithmetic_matrices.proofs.FilledLaws.{filled_start, filled_inside, filled_turn, parts_end}

@@ -1,5 +1,4 @@
 -- `double_both` meets its contract. The invariant: the first i doublings are done. Assumes nothing.
-use Prim.Native.Nat.{◌-◌}
 use mathlib.Core.Path.{◌≡◌}
 use lib.Ieee.{binary32}
 use Rattle.arithmetic_matrices.proofs.Slots.{room_kept}

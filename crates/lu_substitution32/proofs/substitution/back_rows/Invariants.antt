@@ -1,5 +1,4 @@
 -- `back_rows` meets its contract, by the loop over the rows from the last (`Backed`). Assumes nothing.
-use Prim.Native.Nat.{◌-◌}
 use lib.Ieee.{binary32}
 use Rattle.lu_substitution.proofs.SubstitutionLaws.{Backed}
 use Rattle.lu_substitution32.proofs.substitution.back_rows.Given as goal

@@ -1,5 +1,4 @@
 -- `determinant` meets its contract, by the steps down the diagonal. Assumes nothing.
-use Prim.Native.Nat.{◌-◌}
 use mathlib.Core.Path.{refl, ap, ◌∙◌}
 use lib.Ieee.{Float, binary32}
 use Rattle.lu_factoring.specs.Solve.{signed_product, determinant_of, sign_of}

@@ -1,5 +1,4 @@
 -- `forward_rows` meets its contract, by the loop over the rows from the first (`Forwarded`). Assumes nothing.
-use Prim.Native.Nat.{◌-◌}
 use native.Mathlib.Omega.{arith}
 use Rattle.arithmetic_matrices.proofs.MatrixLaws.{row_end}
 use Rattle.lu_substitution.proofs.SubstitutionLaws.{forwarded_start, forwarded_turn, forwarded_end}

@@ -1,5 +1,4 @@
 -- `permute_rows` meets its contract, by the loop over the swaps (`Permuted`). Assumes nothing.
-use Prim.Native.Nat.{◌-◌}
 use native.Mathlib.Omega.{arith}
 use Rattle.lu_substitution.proofs.SubstitutionLaws.{permuted_start, permuted_turn, permuted_end}
 use Rattle.lu_substitution32.proofs.substitution.permute_rows.Goals as goal

@@ -1,6 +1,6 @@
 -- `back_by_rows` meets its contract. The invariant: the rows from i on are final, and nothing else is changed. The measure is i.
 -- Assumes nothing.
-use Prim.Native.Nat.{◌+◌, ◌-◌, ◌*◌, ◌≤◌}
+use Prim.Native.Nat.{◌+◌, ◌*◌, ◌≤◌}
 use mathlib.Core.Path.{◌≡◌}
 use lib.ListN.{length}
 use lib.Ieee.{binary32}

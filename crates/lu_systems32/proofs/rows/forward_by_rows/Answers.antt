@@ -1,5 +1,4 @@
 -- `forward_by_rows` meets its contract. The invariant: the first i rows are final, and nothing else is changed. Assumes nothing.
-use Prim.Native.Nat.{◌-◌}
 use native.Mathlib.Omega.{arith}
 use native.Mathlib.Nat.{zero-mul}
 use mathlib.Core.Path.{refl, ◌∙◌}

@@ -1,6 +1,5 @@
 -- `forward_column` meets its contract. The invariant: the first k columns of the factors are done. The measure is what is left of them.
 -- Assumes nothing.
-use Prim.Native.Nat.{◌-◌}
 use native.Mathlib.Omega.{arith}
 use mathlib.Core.Path.{◌≡◌, refl, sym, ◌∙◌}
 use lib.Ieee.{binary32}

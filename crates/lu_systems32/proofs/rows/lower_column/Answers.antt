@@ -1,6 +1,6 @@
 -- `lower_column` meets its contract. The invariant: the rows from lo up to i are done. The measure is what is left of the rows.
 -- Assumes nothing.
-use Prim.Native.Nat.{◌-◌, ◌*◌}
+use Prim.Native.Nat.{◌*◌}
 use native.Mathlib.Omega.{arith}
 use mathlib.Core.Path.{◌≡◌, refl, sym, ap, ◌∙◌}
 use lib.ListN.{length-set}

@@ -1,10 +1,9 @@
 -- `lower_one` meets its contract. The invariant: the sum is less the first i products of its column,
 -- and r is the place of the column's entry i. Assumes nothing.
-use Prim.Native.Nat.{◌+◌, ◌-◌, ◌*◌, ◌≤◌}
+use Prim.Native.Nat.{◌+◌, ◌*◌, ◌≤◌}
 use native.Mathlib.Omega.{arith}
 use native.Mathlib.Nat.{zero-mul}
-use mathlib.Core.Path.{◌≡◌, refl}
-use lib.ListN.{length-set}
+use mathlib.Core.Path.{◌≡◌}
 use lib.Ieee.{binary32}
 use Rattle.arithmetic_matrices.proofs.MatrixLaws.{row_end, more_rows}
 use Rattle.arithmetic_matrices.proofs.ProductLaws.{put_first}

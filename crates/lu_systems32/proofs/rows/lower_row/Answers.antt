@@ -1,5 +1,4 @@
 -- `lower_row` meets its contract. The invariant: the first j numbers of the row are written, and nothing else is changed. Assumes nothing.
-use Prim.Native.Nat.{◌-◌}
 use native.Mathlib.Omega.{arith}
 use mathlib.Core.Path.{◌≡◌, refl, ◌∙◌}
 use lib.Ieee.{binary32}

@@ -1,6 +1,5 @@
 -- `permute_rows` meets its contract. The invariant: the first k swaps are done in each column. The measure is what is left of the swaps.
 -- Assumes nothing.
-use Prim.Native.Nat.{◌-◌}
 use native.Mathlib.Omega.{arith}
 use mathlib.Core.Path.{◌≡◌, refl, ◌∙◌}
 use Rattle.lu_factoring.specs.Solve.{permuted}

@@ -1,8 +1,8 @@
 -- `upper_four` meets its contract. The invariant: each sum is less the products of the rows from k down to r + 1, and p is
 -- the place of the first column in row r. Assumes nothing.
-use Prim.Native.Nat.{◌+◌, ◌-◌, ◌<◌, ◌≤◌}
+use Prim.Native.Nat.{◌+◌, ◌<◌, ◌≤◌}
 use native.Mathlib.Omega.{arith}
-use mathlib.Core.Path.{◌≡◌, refl}
+use mathlib.Core.Path.{◌≡◌}
 use lib.ListN.{length, length-set}
 use lib.Ieee.{binary32}
 use Rattle.arithmetic_matrices.proofs.MatrixLaws.{row_end, more_rows}

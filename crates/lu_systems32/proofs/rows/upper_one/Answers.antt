@@ -1,9 +1,9 @@
 -- `upper_one` meets its contract. The invariant: the sum is less the products of the rows from k down to r + 1, and p is
 -- the place of the column in row r. Assumes nothing.
-use Prim.Native.Nat.{◌+◌, ◌-◌, ◌<◌, ◌≤◌}
+use Prim.Native.Nat.{◌+◌, ◌<◌, ◌≤◌}
 use native.Mathlib.Omega.{arith}
-use mathlib.Core.Path.{◌≡◌, refl}
-use lib.ListN.{length, length-set}
+use mathlib.Core.Path.{◌≡◌}
+use lib.ListN.{length}
 use lib.Ieee.{binary32}
 use Rattle.arithmetic_matrices.proofs.MatrixLaws.{row_end, more_rows}
 use Rattle.arithmetic_matrices.proofs.ProductLaws.{put_first}
