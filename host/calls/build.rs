@@ -1,6 +1,6 @@
 //! Links the libraries of the port's public calls where they are there, and sets the configurations `entries` (f64) and `entries32` (f32); and those of
 //! two steps inside them, `kernels` and `kernels32`. They are libhost_entries.a, libhost_entries32.a, libhost_kernels.a and libhost_kernels32.a in
-//! target/staticlib of the repository, which `rt staticlib` makes.
+//! target/staticlib of the repository, which `tools/static-libraries` makes.
 
 use std::env;
 use std::path::Path;
@@ -19,7 +19,7 @@ fn main() {
         let file = folder.join(format!("lib{library}.a"));
         println!("cargo::rerun-if-changed={}", file.display());
         if !file.exists() {
-            println!("cargo::warning=built without {library}; `rt staticlib {library}` makes it");
+            println!("cargo::warning=built without {library}; `tools/static-libraries {library}` makes it");
             continue;
         }
         println!("cargo::rustc-link-search=native={}", folder.canonicalize().unwrap().display());

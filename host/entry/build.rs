@@ -1,6 +1,6 @@
 //! Links the port's static library where it is there, and sets the configuration `port`, which packages that depend on this one learn as the variable
 //! DEP_SHEET_PORT of their build. The library is the file that FIGPUMICE_STATICLIB names, or else target/staticlib/libsheet.a of the repository, which
-//! `rt staticlib sheet` makes.
+//! `tools/static-libraries sheet` makes.
 
 use std::env;
 use std::path::{Path, PathBuf};
@@ -20,7 +20,7 @@ fn main() {
     let Ok(library) = library.canonicalize() else {
         // A library that is named must be there.
         assert!(env::var_os("FIGPUMICE_STATICLIB").is_none(), "{}: not there", library.display());
-        println!("cargo::warning=built without the port: no static library; `rt staticlib sheet` makes it");
+        println!("cargo::warning=built without the port: no static library; `tools/static-libraries sheet` makes it");
         return;
     };
     let name = library.file_stem().unwrap().to_str().unwrap().trim_start_matches("lib");

@@ -38,7 +38,7 @@ pub trait Port: Width {
 }
 
 impl Port for f64 {
-    const ABSENT: &'static str = "built without the port's calls; make them with `rt staticlib host_entries`";
+    const ABSENT: &'static str = "built without the port's calls; make them with `tools/static-libraries host_entries`";
 
     #[cfg(entries)]
     fn port() -> Option<Entry<'static, f64>> {
@@ -52,7 +52,7 @@ impl Port for f64 {
 }
 
 impl Port for f32 {
-    const ABSENT: &'static str = "built without the port's f32 calls; make them with `rt staticlib host_entries32`";
+    const ABSENT: &'static str = "built without the port's f32 calls; make them with `tools/static-libraries host_entries32`";
 
     #[cfg(entries32)]
     fn port() -> Option<Entry<'static, f32>> {

@@ -5,7 +5,7 @@ use crate::entries::Port;
 
 /// What a program says where a library was not there when it was built.
 pub const ABSENT: &str =
-    "built without the port's steps; make them with `rt staticlib host_kernels` and `rt staticlib host_kernels32`";
+    "built without the port's steps; make them with `tools/static-libraries host_kernels host_kernels32`";
 
 /// The steps.
 #[derive(Clone, Copy)]

@@ -1,6 +1,6 @@
 //! The entries are declared alike in the Rattle source, in the header for C and in this package: names, order and types of their parameters.
 
-const SOURCE: &str = include_str!("../../../crates/sheet/src/lib.rt");
+const SOURCE: &str = include_str!("../../../crates/sheet_c/src/lib.rt");
 const HEADER: &str = include_str!("../../include/axis.h");
 const PACKAGE: &str = include_str!("../src/lib.rs");
 
@@ -35,7 +35,7 @@ fn declared(entry: &str, parameter_of: impl Fn(&(&'static str, &'static str, &'s
 }
 
 fn entries() -> Vec<String> {
-    between(SOURCE, "#[no_mangle] pub extern \"C\" fn ", ") -> usize ensures")
+    between(SOURCE, "#[unsafe(no_mangle)] pub extern \"C\" fn ", ") -> usize ensures")
 }
 
 #[test]
