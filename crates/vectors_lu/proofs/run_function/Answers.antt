@@ -1,5 +1,4 @@
 -- `run_function` meets its contract: each line brings it nearer to the end of the text. Assumes nothing.
-use Prim.Native.Nat.{◌-◌}
 use native.Mathlib.Omega.{arith}
 use Rattle.vectors_lu.proofs.run_function.Goals as goal
 

@@ -1,5 +1,4 @@
 -- `counts` meets its contract. The invariant: the reader stands in the text, and `into` keeps its length. Assumes nothing.
-use Prim.Native.Nat.{◌-◌}
 use lib.ListN.{length-set}
 use borrow.Author.Rules.{rules}
 use Rattle.vectors_recorded.proofs.counts.Goals as goal

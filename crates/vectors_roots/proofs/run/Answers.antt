@@ -1,5 +1,4 @@
 -- `run` is safe and ends: each number that is read brings it nearer to the end of the text. Assumes nothing.
-use Prim.Native.Nat.{◌-◌}
 use native.Mathlib.Omega.{arith}
 use Rattle.vectors_roots.proofs.run.Goals as goal
 
