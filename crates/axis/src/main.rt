@@ -1,11 +1,15 @@
-// Reads a sheet on standard input and writes a line for each task. What an input has past the buffer changes nothing: the first 4,709 bytes decide
-// (`first-bytes` in crates/sheet/proofs/FirstBytes.antt).
+// Reads a sheet on standard input and writes a line for each task. What an input has past the 65,536 bytes that are read changes nothing: the first
+// 4,709 bytes decide (`first-bytes` in crates/sheet/proofs/FirstBytes.antt).
 #![tactic(auto)]
 
-fn main() {
-    let mut input = io::large_buffer();
-    let n = io::read_full(0, &mut input);
-    let mut lines = io::large_buffer();
-    let k = sheet::axis_sheet(&input[..n], &mut lines);
-    io::write_all(1, &lines[..k]);
+use sheet::axis_sheet;
+use std::io;
+use std::io::{Read, Write};
+
+fn main(rt: HostRuntime) -> io::Result<()> {
+    let mut input = Vec::new(rt.alloc());
+    rt.reader().take(65_536).read_to_end(&mut input)?;
+    let mut lines = vec![in rt.alloc(); 0u8; 65_536]?;
+    let n = axis_sheet(&input, &mut lines);
+    io::writer(&rt).write_all(&lines[..n])
 }

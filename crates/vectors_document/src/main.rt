@@ -13,6 +13,8 @@ use compare::{
 };
 use functions::{cond_expm, powm};
 use sheet::axis_sheet;
+use std::io;
+use std::io::Write;
 use vectors_recorded::begins;
 use vectors_recorded::tally::{Tally, judged, next};
 
@@ -99,32 +101,28 @@ fn run_sheet() -> bool {
 }
 
 // Writes whether the line of this name is as wanted, and counts it.
-fn report(tally: Tally, name: &[u8], as_wanted: bool) -> Tally {
-    io::write_all(1, name);
+fn report<W: Write>(out: &mut W, tally: Tally, name: &[u8], as_wanted: bool) -> io::Result<Tally> {
+    out.write_all(name)?;
     if as_wanted {
-        io::write_all(1, b": as wanted\n");
+        out.write_all(b": as wanted\n")?;
     } else {
-        io::write_all(1, b": differs\n");
+        out.write_all(b": differs\n")?;
     }
-    tally.with(judged(as_wanted), next(tally.calls))
+    Ok(tally.with(judged(as_wanted), next(tally.calls)))
 }
 
-fn run_lines() -> Tally {
-    let a = report(
-        Tally::empty(),
-        b"powm of zero, order 2, p -1",
-        run_inverse(),
-    );
-    let b = report(a, b"powm of zero, order 2, p 0", run_identity());
-    let c = report(b, b"powm of zero, order 8, p 0", run_wide_identity());
-    let d = report(c, b"cond_expm of zero, order 4", run_condition());
-    report(d, b"axis on 46 bytes", run_sheet())
+fn run_lines<W: Write>(out: &mut W) -> io::Result<Tally> {
+    let none = Tally::empty();
+    let a = report(out, none, b"powm of zero, order 2, p -1", run_inverse())?;
+    let b = report(out, a, b"powm of zero, order 2, p 0", run_identity())?;
+    let c = report(out, b, b"powm of zero, order 8, p 0", run_wide_identity())?;
+    let d = report(out, c, b"cond_expm of zero, order 4", run_condition())?;
+    report(out, d, b"axis on 46 bytes", run_sheet())
 }
 
-fn main() {
-    let tally = run_lines();
-    io::print_decimal(1, tally.calls);
-    io::write_all(1, b" lines, ");
-    io::print_decimal(1, tally.differ);
-    io::write_all(1, b" differ\n");
+fn main(rt: HostRuntime) -> io::Result<()> {
+    let tally = run_lines(&mut io::writer(&rt))?;
+    let calls = tally.calls;
+    let differ = tally.differ;
+    println!(rt; "{calls} lines, {differ} differ")
 }

@@ -6,6 +6,7 @@ ghost use Rattle.vectors_recorded.specs.Within.{Within};
 
 mod bits;
 pub mod call;
+pub mod input;
 pub mod outcome;
 pub mod tally;
 

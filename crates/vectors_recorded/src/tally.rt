@@ -1,4 +1,6 @@
 // Counts of the vectors of one function.
+use std::io;
+use std::io::Write;
 
 // What a vector shows. It is skipped where its lists are longer than the room that the program keeps.
 #[derive(Clone, Copy)]
@@ -75,30 +77,28 @@ impl Tally {
     }
 }
 
-// Writes the counts after a function's name.
-pub fn write_tally(name: &[u8], tally: Tally) {
-    io::write_all(1, name);
-    io::write_all(1, b": ");
-    io::print_decimal(1, tally.calls);
-    io::write_all(1, b" calls, ");
-    io::print_decimal(1, tally.differ);
-    io::write_all(1, b" differ");
-    if tally.differ != 0 {
-        io::write_all(1, b", the first on line ");
-        io::print_decimal(1, tally.first);
+// Writes the counts after a function's name, and a line end.
+pub fn write_tally<W: Write>(out: &mut W, name: &[u8], tally: Tally) -> io::Result<()> {
+    let calls = tally.calls;
+    let differ = tally.differ;
+    let first = tally.first;
+    let skipped = tally.skipped;
+    out.write_all(name)?;
+    write!(out, ": {calls} calls, {differ} differ")?;
+    if differ != 0 {
+        write!(out, ", the first on line {first}")?;
     }
-    if tally.skipped != 0 {
-        io::write_all(1, b", skipped: ");
-        io::print_decimal(1, tally.skipped);
+    if skipped != 0 {
+        write!(out, ", skipped: {skipped}")?;
     }
-    io::write_all(1, b"\n");
+    out.write_all(b"\n")
 }
 
 // Says where vectors stand that were not run, if any.
-pub fn write_rest(text: &[u8], progress: Progress) {
+pub fn write_rest<W: Write>(out: &mut W, text: &[u8], progress: Progress) -> io::Result<()> {
+    let line = progress.line;
     if progress.at < text.len() {
-        io::write_all(1, b"not run from line ");
-        io::print_decimal(1, progress.line);
-        io::write_all(1, b" on\n");
+        write!(out, "not run from line {line} on\n")?;
     }
+    Ok(())
 }
