@@ -4,6 +4,8 @@
 #![tactic(auto)]
 
 use arithmetic32::sqrt;
+use std::io;
+use vectors_recorded::input::read_text;
 use vectors_recorded::tally::{Tally, judged, next, write_tally};
 use vectors_recorded::word;
 use vectors_recorded32::{has_bits, number_of};
@@ -26,8 +28,7 @@ fn run(text: &[u8]) -> Tally {
     tally
 }
 
-fn main() {
-    let mut buffer = io::large_buffer();
-    let n = io::read_full(0, &mut buffer);
-    write_tally(b"sqrt", run(&buffer[..n]));
+fn main(rt: HostRuntime) -> io::Result<()> {
+    let text = read_text(rt.alloc(), &mut rt.reader())?;
+    write_tally(&mut io::writer(&rt), b"sqrt", run(&text))
 }
