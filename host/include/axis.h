@@ -1,4 +1,4 @@
-/* The exported entries of the static library libsheet.a, which `rt staticlib sheet` makes. */
+/* The exported entries of the static library libsheet.a, which `tools/static-libraries sheet` makes. */
 #ifndef AXIS_H
 #define AXIS_H
 

@@ -1,5 +1,5 @@
 // Reads a sheet on standard input and writes a line for each task. What an input has past the 65,536 bytes that are read changes nothing: the first
-// 4,709 bytes decide (`first-bytes` in crates/sheet/proofs/FirstBytes.antt).
+// 4,709 bytes decide (`first_bytes` in crates/sheet/proofs/FirstBytes.antt).
 #![tactic(auto)]
 
 use sheet::axis_sheet;
