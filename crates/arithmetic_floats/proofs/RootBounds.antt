@@ -1,11 +1,12 @@
 -- The root of a number above the square of y is y at least, and below no t up to y, over the format. Assumes nothing.
-use Rattle.std.proofs.Common.{◌≡◌, ℕ, ◌+◌, ◌*◌, ◌^◌, ◌<◌, ◌≤◌, true, false, T, ◌⊎◌, sym, refl, ap, ◌∙◌, inl, inr, le_trans, le_of_eq, mul-le-mul_right, mul_assoc, mul-le-mul, mul-pos, mul_right_comm, le_of_mul-le-mul_right, arith, pow_pos, le-ltb}
+use Rattle.std.proofs.Common.{◌≡◌, ℕ, ◌+◌, ◌-◌, ◌*◌, ◌^◌, ◌<◌, ◌≤◌, true, false, T, ◌⊎◌, sym, refl, ap, ◌∙◌, inl, inr, le_trans, le_of_eq, mul-le-mul_right, mul_assoc, mul-le-mul, mul-pos, mul_right_comm, le_of_mul-le-mul_right, arith, pow_pos, le-ltb}
 use native.Mathlib.Nat.{mul-mul-mul_comm}
-use lib.Ieee.{Float, nan, inf, fin, Format, low, up, down, fits, lt, eq, le}
+use lib.Ieee.{Float, nan, inf, fin, Format, binary32, binary64, prec, low, up, down, fits, lt, eq, le, mul, of_int, round}
 use lib.Ieee.Exact.{HasValue}
 use lib.Ieee.Order.{le_of_values}
 use lib.Ieee.Positive.{num, den, den_pos, positive, positive_of_value, own_value, value_pos, above, above_of_le, value→cross, le→cross, values_of_le, le_trans_positive}
-use Rattle.arithmetic_floats.specs.Root.{count, sqrt_of, NearestRoot}
+use Rattle.arithmetic_floats.specs.Float.{inverse_power_of_two}
+use Rattle.arithmetic_floats.specs.Root.{count, sqrt_of, NearestRoot, hundred_steps}
 use Rattle.arithmetic_floats.proofs.Order.{split, or_left}
 use Rattle.arithmetic_floats.proofs.Squares.{sq_twice}
 use Rattle.arithmetic_floats.proofs.Counts.{count_value}
@@ -87,3 +88,9 @@ root_not_below f x y s t hx hy py pt v l h = go x hx (lt_le s x h) (above_of_le 
     go (inf false) hx k a = infinite f t pt
     go (fin true m e) hx k a = absurd a
     go (fin false m e) hx k a = finite_root f (fin false m e) y s t hx a hy py pt v l k
+
+-- The root of a number above 2 ^ -2 k is 2 ^ -k at least, and so not below a hundred steps, 100 * 2 ^ (1 - prec), where k is prec - 13: 40 for binary64.
+pub large_root : (f : Format) (x : Float) → T (fits f x) → T (lt (inverse_power_of_two (2 * (prec f - 13))) x) → lt (sqrt_of f x) (hundred_steps f) ≡ false
+unfolding fits le mul of_int hundred_steps round
+large_root binary32 x h l = root_not_below binary32 x (inverse_power_of_two (prec binary32 - 13)) (inverse_power_of_two (2 * (prec binary32 - 13))) (hundred_steps binary32) h tt tt tt (refl, refl) tt l
+large_root binary64 x h l = root_not_below binary64 x (inverse_power_of_two (prec binary64 - 13)) (inverse_power_of_two (2 * (prec binary64 - 13))) (hundred_steps binary64) h tt tt tt (refl, refl) tt l

@@ -1,10 +1,11 @@
 -- The square root of a float, rounded to the nearest value of the format, a tie to the even one. Definitions only.
 -- There are no real numbers here: a root is compared with a number by comparing squares of whole numbers.
-use Rattle.std.specs.Prelude.{ℕ, zero, suc, ◌+◌, ◌-◌, ◌*◌, ◌/◌, ◌^◌, ◌<◌, ◌≤◌, false, cond, T, nat_le, Float}
+use Rattle.std.specs.Prelude.{ℕ, zero, suc, ◌+◌, ◌-◌, ◌*◌, ◌/◌, ◌^◌, ◌<◌, ◌≤◌, false, cond, T, nat_le, pos, Float}
 use Prim.Native.Nat.{compare}
 use Rattle.std.specs.Float.{nan, inf, fin, Format}
-use Rattle.std.specs.Float.Ieee.{prec, emax, low, up, down, size, nearest, units, fits}
+use Rattle.std.specs.Float.Ieee.{prec, emax, low, up, down, size, nearest, units, fits, mul, of_int}
 use Rattle.std.specs.Float.Ieee.Positive.{positive}
+use Rattle.arithmetic_floats.specs.Float.{epsilon}
 
 -- r is the whole part of the root of n
 abbrev pub IsRoot : ℕ → ℕ → Type 0
@@ -63,3 +64,7 @@ pub record NearestRoot (f : Format) (x r : Float) : Type 0 where
   pub plus : T (positive r)
   pub over : (y : Float) → T (fits f y) → count f y < count f r → (count f y + count f r) * (count f y + count f r) < 4 * (count f x * 2 ^ low f)
   pub under : (y : Float) → T (fits f y) → count f r < count f y → 4 * (count f x * 2 ^ low f) < (count f y + count f r) * (count f y + count f r)
+
+-- a hundred times the distance from 1 to the next number
+unfoldable pub hundred_steps : Format → Float
+hundred_steps f = mul f (epsilon f) (of_int f (pos 100))

@@ -1,25 +1,23 @@
 -- What the loops of the kernels keep, as records, each with its laws: start, one turn, end. Assumes nothing.
 use Prim.Native.Nat.{ℕ, ◌+◌, ◌-◌, ◌*◌, ◌<◌, ◌≤◌}
-use native.Mathlib.Nat.{zero-add, zero-mul, add_assoc, mul-le-mul_right}
+use native.Mathlib.Nat.{zero-add, zero-mul, mul-le-mul_right}
 use native.Mathlib.Numerals.{add-one}
 use native.Mathlib.Omega.{arith}
-use mathlib.Core.Path.{◌≡◌, refl, sym, ◌∙◌, ap, subst}
+use mathlib.Core.Path.{◌≡◌, refl, sym, ◌∙◌, ap}
 use mathlib.Core.List.{List}
 use mathlib.Core.Bool.{false}
 use lib.Dec.{eqb}
 use lib.ListN.{length, set, take, drop, length-set}
 use borrow.Rule.Slice.PartMut.{put_mid}
-use lib.Ieee.{Float, Format, nan, add, sub, of_bits}
-use Rattle.arithmetic_floats.specs.Float.{one, larger}
+use lib.Ieee.{Float, Format, nan, sub}
+use Rattle.arithmetic_floats.specs.Float.{one}
 use Rattle.arithmetic_matrices.specs.Matrix.{tab, grid, item, at, part, put, Apart}
-use Rattle.arithmetic_matrices.specs.Product.{sum, minus_identity_entry, minus_identity_m}
-use Rattle.arithmetic_matrices.specs.Norm.{largest}
+use Rattle.arithmetic_matrices.specs.Product.{minus_identity_entry, minus_identity_m}
 use Rattle.arithmetic_matrices.specs.Workspace.{slot, store, Room}
 use Rattle.arithmetic_matrices.specs.Kernels.{put_rows}
-use Rattle.arithmetic_matrices.proofs.MatrixLaws.{square_le, length-tab, tab-get_or, length-grid, index_lt, row_end, more_rows}
+use Rattle.arithmetic_matrices.proofs.MatrixLaws.{square_le, length-tab, length-grid, index_lt, row_end, more_rows}
 use Rattle.arithmetic_matrices.proofs.PartLaws.{length_part, length-put, lent, returned, get_d_part, at_part, put_no_row, get_or-put_apart, put-none, put-store, put_all, read_apart, read_next}
-use Rattle.arithmetic_matrices.proofs.ProductLaws.{sum_none, sum_more, minus_identity_m_part, minus_identity_row}
-use Rattle.arithmetic_matrices.proofs.NormLaws.{largest_none, largest_more}
+use Rattle.arithmetic_matrices.proofs.ProductLaws.{minus_identity_m_part, minus_identity_row}
 use Rattle.arithmetic_matrices.proofs.Slots.{slots_apart, room_within}
 use Rattle.arithmetic_matrices.proofs.FilledLaws.{Filled, filled_start, filled_turn, filled_end}
 
@@ -55,13 +53,6 @@ stored_turn0 s h e = rw zero-add at (stored_turn s h e)
 -- all of a list is stored
 pub stored_all : {m : ℕ} {F : ℕ → Float} {w₀ w : List Float} {k : ℕ} → Stored 0 m F w₀ w k → m ≤ k → length w₀ ≡ m → w ≡ tab m F
 stored_all {m} {F} {w₀} s h l = stored_end s h ∙ put_all w₀ (tab m F) (length-tab m F ∙ sym l)
-
--- all numbers of x are copied, and to a list as long as x
-pub copied_end : {y : ℕ} (x : List Float) {w₀ w : List Float} {k : ℕ} → Stored y (length x) (item x) w₀ w k → length x ≤ k → w ≡ put w₀ y x
-copied_end {y} x {w₀} s h = stored_end s h ∙ ap (put w₀ y) (tab-get_or x nan)
-
-pub copied_all : (x : List Float) {w₀ w : List Float} {k : ℕ} → Stored 0 (length x) (item x) w₀ w k → length x ≤ k → length x ≡ length w₀ → w ≡ x
-copied_all x {w₀} s h l = copied_end x s h ∙ put_all w₀ x l
 
 -- ---- the entries of a matrix in a slot
 
@@ -138,10 +129,6 @@ module _ {x n j q i : ℕ} (s : Down x n j q i) (h : i < n) where
   pub down_inside : q < x + n * n
   down_inside = omega (arith, s.place, index_lt h s.column)
 
--- the place after q is that of entry (i, j + 1)
-pub down_beside : {x n j q i : ℕ} → Down x n j q i → j + 1 < n → Down x n (j + 1) (q + 1) i
-down_beside s h = record { within = s.within; column = h; place = omega (arith, s.place) }
-
 -- q is the place of entry (i, i): a walk down the diagonal
 pub record Diagonal (x n q i : ℕ) : Type 0 where
   pub within : i ≤ n
@@ -180,75 +167,27 @@ module _ {f : Format} {n a : ℕ} {w₀ w : List Float} {q i : ℕ} (s : LessIde
   unfolding slot store
   less_end h = let e : i ≡ n = omega (arith, s.walk.within) in rw (minus_identity_m_part f n w₀ (256 * a)) (rw e at s.list)
 
--- ---- sums and the largest of numbers
-
--- s is the sum of the first i of n numbers
-pub record PartialSum (f : Format) (n : ℕ) (g : ℕ → Float) (s : Float) (i : ℕ) : Type 0 where
-  pub within : i ≤ n
-  pub total : s ≡ sum f i g
-
-pub partial_start : (f : Format) {n : ℕ} {g : ℕ → Float} → PartialSum f n g (of_bits f 0) 0
-partial_start f {n} {g} = record { within = omega arith; total = sum_none f g }
-
-pub partial_turn : {f : Format} {n : ℕ} {g : ℕ → Float} {s v : Float} {i : ℕ} → PartialSum f n g s i → i < n → v ≡ g i → PartialSum f n g (add f s v) (i + 1)
-partial_turn p h e = record { within = omega arith; total = rw (e, p.total, sum_more) }
-
-pub partial_end : {f : Format} {n : ℕ} {g : ℕ → Float} {s : Float} {i : ℕ} → PartialSum f n g s i → n ≤ i → s ≡ sum f n g
-partial_end {n = n} {i = i} p h = let e : i ≡ n = omega arith in rw e at p.total
-
--- s is the largest of +0 and the first i of n numbers
-pub record Largest (n : ℕ) (g : ℕ → Float) (s : Float) (i : ℕ) : Type 0 where
-  pub within : i ≤ n
-  pub most : s ≡ largest i g
-
-pub largest_start : (f : Format) {n : ℕ} {g : ℕ → Float} → Largest n g (of_bits f 0) 0
-largest_start f {n} {g} = record { within = omega arith; most = largest_none f g }
-
-pub largest_turn : {n : ℕ} {g : ℕ → Float} {s v r : Float} {i : ℕ} → Largest n g s i → i < n → v ≡ g i → r ≡ larger s v → Largest n g r (i + 1)
-largest_turn p h e q = record { within = omega arith; most = rw (q, e, p.most, largest_more) }
-
--- two numbers at a time
-pub largest_two : {n : ℕ} {g : ℕ → Float} {s u v r t : Float} {i : ℕ} → Largest n g s i → i + 1 < n → u ≡ g i → v ≡ g (i + 1) → r ≡ larger s u → t ≡ larger r v → Largest n g t (i + 2)
-largest_two {n} {g} {t = t} {i} p h e d q b = subst (Largest n g t) (add_assoc i 1 1) (largest_turn (largest_turn p (omega arith) e q) h d b)
-
-pub largest_end : {n : ℕ} {g : ℕ → Float} {s : Float} {i : ℕ} → Largest n g s i → n ≤ i → s ≡ largest n g
-largest_end {n} {i = i} p h = let e : i ≡ n = omega arith in rw e at p.most
-
 -- ---- rows that are copied to places a step apart
 
--- the first i rows of the n by n matrix src are copied, row r to o + r * step; the next is read from x on and written from y on
-pub record Placed (o step n : ℕ) (src w₀ w : List Float) (x y i : ℕ) : Type 0 where
+-- the first i rows of the n by n matrix src are copied, row r to o + r * step
+pub record Placed (o step n : ℕ) (src w₀ w : List Float) (i : ℕ) : Type 0 where
   pub within : i ≤ n
   pub long : length w ≡ length w₀
-  pub read : x ≡ i * n
-  pub written : y ≡ o + i * step
   pub list : w ≡ put_rows w₀ o step i n (at n src)
 
-pub placed_start : {o step n : ℕ} {src w₀ : List Float} → Placed o step n src w₀ w₀ 0 o 0
+pub placed_start : {o step n : ℕ} {src w₀ : List Float} → Placed o step n src w₀ w₀ 0
 unfolding put_rows
-placed_start {step = step} {n = n} = record { within = omega arith; long = refl; read = sym (zero-mul n); written = omega (arith, zero-mul step); list = refl }
+placed_start = record { within = omega arith; long = refl; list = refl }
 
--- the two rows of a turn are within their lists, and as long as each other
-pub placed_fit : {o step n : ℕ} {src w₀ w : List Float} {x y i : ℕ} → Placed o step n src w₀ w x y i → length src ≡ n * n → ((r : ℕ) → r < n → o + r * step + n ≤ length w₀) → i < n
-    → (y + n ≤ length w) × (x + n ≤ length src)
-placed_fit {n = n} {i = i} p l fits h = (omega (arith, p.written, p.long, fits i h), omega (arith, p.read, row_end i n n h))
-
-pub placed_lent : {o step n : ℕ} {src w₀ w : List Float} {x y i : ℕ} → Placed o step n src w₀ w x y i → (y + n ≤ length w) × (x + n ≤ length src) → length (take (x + n - x) (drop x src)) ≡ length (take (y + n - y) (drop y w))
-placed_lent {n = n} {src = src} {w = w} {x = x} {y = y} p b = ap length (lent src x n b.1) ∙ length_part src x n ∙ sym (ap length (lent w y n b.0) ∙ length_part w y n)
-
-pub placed_turn : {o step n : ℕ} {src w₀ w last : List Float} {x y i : ℕ} → Placed o step n src w₀ w x y i → i < n → (y + n ≤ length w) × (x + n ≤ length src)
-    → last ≡ take (x + n - x) (drop x src) → Placed o step n src w₀ (put_mid y (y + n - y) w last) (x + n) (y + step) (i + 1)
+pub placed_turn : {o step n : ℕ} {src w₀ w last : List Float} {i : ℕ} → Placed o step n src w₀ w i → i < n → length src ≡ n * n → o + i * step + n ≤ length w₀
+    → last ≡ take (i * n + n - i * n) (drop (i * n) src) → Placed o step n src w₀ (put_mid (o + i * step) (o + i * step + n - (o + i * step)) w last) (i + 1)
 unfolding put_rows at part
-placed_turn {o} {step} {n} {src} {w₀} {w} {last} {x} {y} {i} p h b e =
-    let row : last ≡ part src x n = e ∙ lent src x n b.1 in
-    let back : put_mid y (y + n - y) w last ≡ put w y last = returned w last y n (ap length row ∙ length_part src x n) b.0 in
+placed_turn {o} {step} {n} {src} {w₀} {w} {last} {i} p h l fits e =
+    let row : last ≡ part src (i * n) n = e ∙ lent src (i * n) n (omega (arith, row_end i n n h)) in
+    let y : ℕ = o + i * step in
+    let back : put_mid y (y + n - y) w last ≡ put w y last = returned w last y n (ap length row ∙ length_part src (i * n) n) (omega (arith, p.long)) in
     record {
       within = omega arith;
       long = ap length back ∙ length-put w y last ∙ p.long;
-      read = omega (arith, p.read, more_rows i n);
-      written = omega (arith, p.written, more_rows i step);
-      list = back ∙ rw (row, p.list, p.read, p.written, add-one);
+      list = back ∙ rw (row, p.list, add-one);
     }
-
-pub placed_end : {o step n : ℕ} {src w₀ w : List Float} {x y i : ℕ} → Placed o step n src w₀ w x y i → n ≤ i → w ≡ put_rows w₀ o step n n (at n src)
-placed_end {n = n} {i = i} p h = let e : i ≡ n = omega arith in rw e at p.list

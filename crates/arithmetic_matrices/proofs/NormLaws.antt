@@ -5,9 +5,8 @@ use native.Mathlib.Omega.{arith}
 use mathlib.Core.Path.{◌≡◌, refl, ◌∙◌, ap}
 use mathlib.Core.List.{List}
 use lib.ListN.{get_or}
-use lib.Ieee.{Float, Format, nan, of_bits}
+use lib.Ieee.{Float, Format, nan}
 use Rattle.arithmetic_floats.specs.Float.{magnitude, larger}
-use Rattle.arithmetic_floats.proofs.Constants.{+zero_bits}
 use Rattle.arithmetic_matrices.specs.Matrix.{part, tab, grid, item}
 use Rattle.arithmetic_matrices.specs.Product.{dot, sum, minus_identity_entry, minus_identity_m}
 use Rattle.arithmetic_matrices.specs.Norm.{sum_of_magnitudes, largest, norm1, sum_of_squares, trace}
@@ -22,10 +21,6 @@ unfolding sum_of_magnitudes
 magnitudes_cong f k g h e = sum_cong f k _ _ (λ i b. ap magnitude (e i b))
 
 -- ---- the 1-norm
-
-pub largest_none : (f : Format) (g : ℕ → Float) → of_bits f 0 ≡ largest 0 g
-unfolding largest
-largest_none f g = +zero_bits f
 
 pub largest_more : (k : ℕ) (g : ℕ → Float) → largest (k + 1) g ≡ larger (largest k g) (g k)
 unfolding largest

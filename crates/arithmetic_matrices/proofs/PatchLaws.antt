@@ -117,10 +117,6 @@ module _ {A : Type 0} where
 -- ---- a row that is filled from the left
 
 module _ (n i : ℕ) (h : ℕ → Float) (a : List Float) where
-  pub length-row_to : (j : ℕ) → length (row_to n i h a j) ≡ length a
-  unfolding row_to
-  length-row_to j = length-patch (i * n) (i * n + j) (λ q. h (q - i * n)) a
-
   pub row_none : a ≡ row_to n i h a 0
   unfolding row_to
   row_none = let e : i * n + 0 ≡ i * n = omega arith in rw e (patch_none nan (i * n) (λ q. h (q - i * n)) a)

@@ -18,7 +18,7 @@ use Rattle.arithmetic_matrices.specs.Matrix.{tab, grid, at, part, put, Apart, it
 use Rattle.arithmetic_matrices.specs.Product.{sum, dot, mul_m, times_m, add_multiple_m, deduct_m, zero_m, add_m, sub_m, mean_m, difference_quotient_m, diagonal_m, identity_m, minus_identity_entry, minus_identity_m, transpose_m, squared}
 use Rattle.arithmetic_matrices.specs.Kernels.{row_dot}
 use Rattle.arithmetic_matrices.proofs.MatrixLaws.{tab_cong, length-tab, length-grid, grid_cong, row_end, index_lt, get_or-tab}
-use Rattle.arithmetic_matrices.proofs.PartLaws.{at_part, length-put, put-append, put-store, get_or-put_after, get_or-put_apart, put_grid_more, apart_within, tab_parts, set-put}
+use Rattle.arithmetic_matrices.proofs.PartLaws.{at_part, length-put, put-append, get_or-put_after, get_or-put_apart, put_grid_more, apart_within, tab_parts, set-put}
 
 -- ---- sums
 
@@ -44,10 +44,6 @@ sum_fits f (suc k) g = add-fits f (sum f k g) (g k)
 
 -- ---- sums of products
 
-pub dot_none : (f : Format) (a b : ℕ → Float) → of_bits f 0 ≡ dot f 0 a b
-unfolding dot
-dot_none f a b = sum_none f (λ i. mul f (a i) (b i))
-
 pub dot_more : (f : Format) (k : ℕ) (a b : ℕ → Float) → dot f (k + 1) a b ≡ add f (dot f k a b) (mul f (a k) (b k))
 unfolding dot
 dot_more f k a b = sum_more f k _
@@ -71,22 +67,15 @@ tab_row_dot_kept f n w x b y m xs hx hb l = tab_cong n (row_dot f n (put w y xs)
 abbrev pub col_dot : Format → ℕ → ℕ → List Float → ℕ → ℕ → ℕ → Float
 col_dot f k n w x b j = dot f k (λ i. item w (x + i)) (λ i. item w (b + (i * n + j)))
 
--- one product more, p being the place of the column's entry k
-pub dot_turn : (f : Format) (k n : ℕ) (w : List Float) (x b j p : ℕ) (s : Float) → s ≡ col_dot f k n w x b j → p ≡ b + (k * n + j) → add f s (mul f (item w (x + k)) (item w p)) ≡ col_dot f (k + 1) n w x b j
-dot_turn f k n w x b j p s e h = rw (e, h, dot_more)
-
--- all of them
+-- all of the products
 pub dot_done : (f : Format) (k n : ℕ) (w : List Float) (x b j : ℕ) (s : Float) → k ≡ n → s ≡ col_dot f k n w x b j → s ≡ row_dot f n w x w b j
 unfolding row_dot
 dot_done f k n w x b j s h e = rw h at e
 
--- entries stored one after the other, from the first on
+-- the first entry of a table stored
 pub put_first : (w : List Float) (o : ℕ) (F : ℕ → Float) (v : Float) → v ≡ F 0 → set w o v ≡ put w o (tab 1 F)
 unfolding put tab
 put_first w o F v e = ap (set w o) e
-
-pub put_next : (k : ℕ) (w l : List Float) (o : ℕ) (F : ℕ → Float) (v : Float) → l ≡ put w o (tab k F) → v ≡ F k → set l (o + k) v ≡ put w o (tab (k + 1) F)
-put_next k w l o F v p e = rw p (put-store w o k F v e)
 
 -- a table in two parts
 tab-plus : (k m : ℕ) (F : ℕ → Float) → tab (k + m) F ≡ tab k F ++ tab m (λ t. F (k + t))

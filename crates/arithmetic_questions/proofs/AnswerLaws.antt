@@ -1,4 +1,5 @@
 -- What a call answers once its questions are asked: laws for every profile. Assumes nothing.
+use Rattle.std.specs.Prelude.{Ok, Err}
 use Prim.Native.Nat.{ℕ, suc, ◌*◌, ◌≤◌}
 use mathlib.Core.Path.{◌≡◌, ap, sym, subst, ◌∙◌}
 use mathlib.Core.Bool.{Bool, true, false, cond, ◌&&◌}
@@ -14,10 +15,8 @@ use Rattle.arithmetic_matrices.specs.Matrix.{item}
 use Rattle.arithmetic_matrices.specs.Workspace.{cleared}
 use Rattle.arithmetic_questions.specs.Result.{Result, Found, refused, done, ◌>>=◌, ask, only_where, first_no, outcome, exit, workspace}
 use Rattle.arithmetic_questions.specs.Questions.{Call, Emptiness, at_least_one_row, any_rows, Shape, square_only, any_shape, Companion, without_companion, direction, right_hand_side, second_matrix, second_square_matrix, Limits, order8, order64, order_and_right_columns64, sizes_and_products64, Pivots, without_pivots, lent_pivots, given_pivots, Workspace, with_workspace, without_workspace, Entries, finite_entries, any_entries, Exponent, with_exponent, without_exponent, Domain, anywhere, positive, nonnegative, Orders, orders_from_two, every_order, Profile, rows_question, square_question, companion_fits, companion_question, at_most, limit_questions, exactly, has_companion, has_pivots, output_length, length_questions, workspace_question, first_nonfinite, placed, all_finite, entries_question, direction_question, exponent_question, pivots_from, pivots_question, domain_question, order_question, shape_questions, number_questions, asked, answer}
-use Rattle.arithmetic_questions.specs.Answers.{numbered, found}
+use Rattle.arithmetic_questions.specs.Answers.{Question, numbered, found}
 use Rattle.arithmetic_questions.specs.declared.answer.Refusal.{Refusal}
-use Rattle.arithmetic_questions.specs.declared.answer.Question.{Question}
-use Rattle.arithmetic_questions.specs.declared.answer.Question.TheVariants.{Passed, No}
 use Rattle.arithmetic_questions.proofs.QuestionLaws.{as_refused, Each, each_append, questions}
 
 -- every refusal of 1 to 11 has a number up to 11
@@ -169,11 +168,11 @@ early_workspace A k i j w h = ap (λ (b : Bool). cond b w (cleared w)) (le-leb k
 
 module _ {A : Type 0} (p : Profile) (c : Call) (r : Result A) (q : Question) (h : found q ≡ asked p c) where
   -- a call whose questions pass answers what its function does
-  pub answer_passed : q ≡ Passed → answer p c r ≡ r
+  pub answer_passed : q ≡ Ok tt → answer p c r ≡ r
   unfolding answer ◌>>=◌
   answer_passed e = rw (← h, e)
 
-  module _ (x : Refusal) (e : q ≡ No x) where
+  module _ (x : Refusal) (e : q ≡ Err x) where
     -- a call that a question refuses is refused by it, whatever its function would do
     pub answer_no : (k : ℕ) × (i : ℕ) × (j : ℕ) × (numbered x ≡ refused k i j) × (answer p c r ≡ refused k i j) × (k ≤ 11)
     unfolding answer ◌>>=◌

@@ -1,4 +1,5 @@
 -- What a call with two outputs leaves, and a call on the way that may refuse. Assumes nothing.
+use Rattle.std.specs.Prelude.{Ok, Err}
 use Prim.Native.Nat.{ℕ, ◌*◌, ◌≤◌, ◌<◌}
 use native.Mathlib.Omega.{arith}
 use mathlib.Core.Path.{◌≡◌, refl, ap, sym, ◌∙◌}
@@ -12,13 +13,9 @@ use Rattle.arithmetic_matrices.specs.Matrix.{part}
 use Rattle.arithmetic_matrices.specs.Workspace.{slot, store, cleared, Only, member}
 use Rattle.arithmetic_questions.specs.Result.{Result, refused, done, outcome, exit, ◌>>=◌}
 use Rattle.arithmetic_questions.specs.Questions.{Call, Profile, asked, answer}
-use Rattle.arithmetic_questions.specs.Answers.{numbered, reported, found}
+use Rattle.arithmetic_questions.specs.Answers.{Question, Outcome, numbered, reported, found}
 use Rattle.arithmetic_questions.specs.Outputs.{Both, TwoOutputsWith}
 use Rattle.arithmetic_questions.specs.Kernels.{ReplacedBoth, DeliveredBoth}
-use Rattle.arithmetic_questions.specs.declared.answer.Outcome.{Outcome}
-use Rattle.arithmetic_questions.specs.declared.answer.Outcome.TheVariants.{Done, Refused}
-use Rattle.arithmetic_questions.specs.declared.answer.Question.{Question}
-use Rattle.arithmetic_questions.specs.declared.answer.Question.TheVariants.{Passed, No}
 use Rattle.arithmetic_questions.specs.declared.answer.Refusal.{Refusal}
 use Rattle.arithmetic_matrices.proofs.MatrixLaws.{square_le}
 use Rattle.arithmetic_matrices.proofs.Slots.{slot_store, slot_other, slots_apart, only_store, only_trans, only_more, cleared_only, length-store}
@@ -30,13 +27,13 @@ use Rattle.arithmetic_questions.proofs.OutputLaws.{Late, late_where, kept_where,
 -- ---- a call on the way, by its outcome
 
 -- where it is done, so is its definition
-pub call_done : (x : Result (List Float)) (o : Outcome) (v : List Float) (s : ℕ) → reported o ≡ outcome x → v ≡ exit (λ y. y) x v → o ≡ Done s → x ≡ done s v
+pub call_done : (x : Result (List Float)) (o : Outcome) (v : List Float) (s : ℕ) → reported o ≡ outcome x → v ≡ exit (λ y. y) x v → o ≡ Ok s → x ≡ done s v
 unfolding outcome exit
 call_done (refused k i j) o v s p r e = absurd (let z : ◌≡◌ {A = Result (Unit {0})} (done s tt) (refused k i j) = ap reported (sym e) ∙ p in let y : ◌≡◌ {A = ℕ} 0 1 = cc in omega arith)
 call_done (done t u) o v s p r e = let z : ◌≡◌ {A = Result (Unit {0})} (done s tt) (done t tt) = ap reported (sym e) ∙ p in let q : s ≡ t = cc in rw (q, ← r)
 
 -- where it refuses, so does whatever follows it
-pub call_refused : {A : Type 0} (x : Result A) (o : Outcome) (y : Refusal) → reported o ≡ outcome x → o ≡ Refused y → (k : ℕ) × (i : ℕ) × (j : ℕ) × (x ≡ refused k i j) × (numbered y ≡ refused k i j)
+pub call_refused : {A : Type 0} (x : Result A) (o : Outcome) (y : Refusal) → reported o ≡ outcome x → o ≡ Err y → (k : ℕ) × (i : ℕ) × (j : ℕ) × (x ≡ refused k i j) × (numbered y ≡ refused k i j)
 unfolding outcome
 call_refused (refused k i j) o y p e = (k, i, j, refl, ap reported (sym e) ∙ p)
 call_refused (done t u) o y p e =
@@ -46,7 +43,7 @@ call_refused (done t u) o y p e =
 -- ---- the two ends of a delivery
 
 module _ (clears : Bool) (given o : Outcome) (v d first second w w' : List Float) where
-  pub both_delivered : (first' second' : List Float) (s : ℕ) → given ≡ Done s → reported o ≡ done s tt → first' ≡ v → second' ≡ d → w' ≡ cond clears (cleared w) w
+  pub both_delivered : (first' second' : List Float) (s : ℕ) → given ≡ Ok s → reported o ≡ done s tt → first' ≡ v → second' ≡ d → w' ≡ cond clears (cleared w) w
       → DeliveredBoth clears given o v d first first' second second' w w'
   both_delivered first' second' s e k x y z = record {
     outcome = k ∙ sym (ap reported e);
@@ -55,7 +52,7 @@ module _ (clears : Bool) (given o : Outcome) (v d first second w w' : List Float
     workspace = z;
   }
 
-  pub both_kept : (x : Refusal) → given ≡ Refused x → reported o ≡ numbered x → w' ≡ cond clears (cleared w) w → DeliveredBoth clears given o v d first first second second w w'
+  pub both_kept : (x : Refusal) → given ≡ Err x → reported o ≡ numbered x → w' ≡ cond clears (cleared w) w → DeliveredBoth clears given o v d first first second second w w'
   both_kept x e k z = record {
     outcome = k ∙ sym (ap reported e);
     value = sym (exit_refused v first given x e);
@@ -67,7 +64,7 @@ module _ (clears : Bool) (given o : Outcome) (v d first second w w' : List Float
 
 module _ (p : Profile) (c : Call) (q : Question) (h : found q ≡ asked p c) (clears : Bool) (o : Outcome) (first second w : List Float) where
   -- a question refuses: outputs and workspace are as they were lent
-  pub two_refused : (r : Result Both) (x : Refusal) → q ≡ No x → reported o ≡ numbered x → TwoOutputsWith clears (answer p c r) o first first second second w w
+  pub two_refused : (r : Result Both) (x : Refusal) → q ≡ Err x → reported o ≡ numbered x → TwoOutputsWith clears (answer p c r) o first first second second w w
   two_refused r x e k = record {
     outcome = k ∙ sym (outcome_no p c r q h x e);
     value = sym (exit_no p c r q h x e (λ (b : Both). b.value) first);
@@ -76,7 +73,7 @@ module _ (p : Profile) (c : Call) (q : Question) (h : found q ≡ asked p c) (cl
   }
 
   -- None does: the matrix a is copied to slot 0 and the direction d to slot t, slots 0 and 1 are replaced by what g gives for them, and delivered.
-  pub two_done : (ss : List ℕ) (n t : ℕ) (g : List Float → List Float → Result Both) (a d first' second' w1 w2 w3 w4 : List Float) (given : Outcome) → q ≡ Passed → Late (g a d)
+  pub two_done : (ss : List ℕ) (n t : ℕ) (g : List Float → List Float → Result Both) (a d first' second' w1 w2 w3 w4 : List Float) (given : Outcome) → q ≡ Ok tt → Late (g a d)
       → n ≤ 16 → 8192 ≤ length w → length a ≡ n * n → length d ≡ n * n → length first ≡ n * n → length second ≡ n * n → eqb 0 t ≡ false → t < 32 → among (λ s. ltb s 32) ss ≡ true
       → w1 ≡ store w 0 a → w2 ≡ store w1 t d → ReplacedBoth ss n (g (slot n w2 0) (slot n w2 t)) given w2 w3
       → DeliveredBoth clears given o (part w3 0 (length first)) (part w3 256 (length second)) first first' second second' w3 w4 → TwoOutputsWith clears (answer p c (g a d)) o first first' second second' w w4
@@ -104,7 +101,7 @@ module _ (p : Profile) (c : Call) (q : Question) (h : found q ≡ asked p c) (cl
 
 -- Where the first of two calls refuses, with y, both outputs stay as they are.
 pub both_refused : {A : Type 0} (x : Result A) (g : A → Result Both) (ss : List ℕ) (n : ℕ) (o q : Outcome) (y : Refusal) (w w' : List Float)
-    → reported o ≡ outcome x → o ≡ Refused y → reported q ≡ numbered y → Only (member ss) w w' → ReplacedBoth ss n (x >>= g) q w w'
+    → reported o ≡ outcome x → o ≡ Err y → reported q ≡ numbered y → Only (member ss) w w' → ReplacedBoth ss n (x >>= g) q w w'
 unfolding ◌>>=◌ outcome exit
 both_refused {A} x g ss n o q y w w' h e eq only =
     let (k, i, j, ex, en) = call_refused x o y h e in

@@ -1,4 +1,5 @@
 -- What a call leaves once its questions are asked. Assumes nothing.
+use Rattle.std.specs.Prelude.{Ok, Err}
 use Prim.Native.Nat.{ℕ, ◌*◌, ◌≤◌}
 use native.Mathlib.Omega.{arith}
 use mathlib.Core.Path.{◌≡◌, refl, ap, sym, ◌∙◌}
@@ -12,13 +13,9 @@ use Rattle.arithmetic_matrices.specs.Matrix.{part}
 use Rattle.arithmetic_matrices.specs.Workspace.{slot, store, cleared, Only}
 use Rattle.arithmetic_questions.specs.Result.{Result, refused, done, ◌>>=◌, outcome, exit, workspace}
 use Rattle.arithmetic_questions.specs.Questions.{Call, Profile, asked, answer}
-use Rattle.arithmetic_questions.specs.Answers.{numbered, reported, found}
+use Rattle.arithmetic_questions.specs.Answers.{Question, Outcome, numbered, reported, found}
 use Rattle.arithmetic_questions.specs.Outputs.{WorkspaceLeft, OneOutput, OneOutputWith}
 use Rattle.arithmetic_questions.specs.Kernels.{Replaced, Delivered}
-use Rattle.arithmetic_questions.specs.declared.answer.Outcome.{Outcome}
-use Rattle.arithmetic_questions.specs.declared.answer.Outcome.TheVariants.{Done, Refused}
-use Rattle.arithmetic_questions.specs.declared.answer.Question.{Question}
-use Rattle.arithmetic_questions.specs.declared.answer.Question.TheVariants.{Passed, No}
 use Rattle.arithmetic_questions.specs.declared.answer.Refusal.{Refusal}
 use Rattle.arithmetic_matrices.proofs.MatrixLaws.{square_le}
 use Rattle.arithmetic_matrices.proofs.Slots.{slot_store, only_store, only_trans, only_more, cleared_only}
@@ -56,11 +53,11 @@ late_bind (done s a) g h l = l a
 -- ---- an output by an outcome
 
 module _ (v lent : List Float) (given : Outcome) where
-  pub exit_done : (s : ℕ) → given ≡ Done s → exit (λ _. v) (reported given) lent ≡ v
+  pub exit_done : (s : ℕ) → given ≡ Ok s → exit (λ _. v) (reported given) lent ≡ v
   unfolding exit
   exit_done s e = ap (λ (z : Outcome). exit (λ _. v) (reported z) lent) e
 
-  pub exit_refused : (x : Refusal) → given ≡ Refused x → exit (λ _. v) (reported given) lent ≡ lent
+  pub exit_refused : (x : Refusal) → given ≡ Err x → exit (λ _. v) (reported given) lent ≡ lent
   unfolding exit
   exit_refused x e =
       let (i, j, l, n) = as_refused x in
@@ -76,7 +73,7 @@ module _ (v lent : List Float) (given : Outcome) where
 
 module _ (p : Profile) (c : Call) (q : Question) (h : found q ≡ asked p c) (o : Outcome) (before : List Float) where
   -- a question refuses: the output is as it was lent
-  pub output_refused : (r : Result (List Float)) (x : Refusal) → q ≡ No x → reported o ≡ numbered x → OneOutput (answer p c r) o before before
+  pub output_refused : (r : Result (List Float)) (x : Refusal) → q ≡ Err x → reported o ≡ numbered x → OneOutput (answer p c r) o before before
   output_refused r x e k = record {
     outcome = k ∙ sym (outcome_no p c r q h x e);
     output = sym (exit_no p c r q h x e (λ v. v) before);
@@ -84,7 +81,7 @@ module _ (p : Profile) (c : Call) (q : Question) (h : found q ≡ asked p c) (o 
 
   -- none does: the output is the definition's
   pub output_done :
-      (s : ℕ) (v after : List Float) → q ≡ Passed → reported o ≡ done s tt → after ≡ v → OneOutput (answer p c (done s v)) o before after
+      (s : ℕ) (v after : List Float) → q ≡ Ok tt → reported o ≡ done s tt → after ≡ v → OneOutput (answer p c (done s v)) o before after
   unfolding outcome exit
   output_done s v after e k w = record {
     outcome = k ∙ sym (ap outcome (answer_passed p c (done s v) q h e));
@@ -94,17 +91,17 @@ module _ (p : Profile) (c : Call) (q : Question) (h : found q ≡ asked p c) (o 
 -- ---- one output and a workspace
 
 -- the two ends of a delivery
-pub delivered_done : (clears : Bool) (given o : Outcome) (v before after w w' : List Float) (s : ℕ) → given ≡ Done s → reported o ≡ done s tt → after ≡ v → w' ≡ cond clears (cleared w) w
+pub delivered_done : (clears : Bool) (given o : Outcome) (v before after w w' : List Float) (s : ℕ) → given ≡ Ok s → reported o ≡ done s tt → after ≡ v → w' ≡ cond clears (cleared w) w
     → Delivered clears given o v before after w w'
 delivered_done clears given o v before after w w' s e k x y = record { outcome = k ∙ sym (ap reported e); output = x ∙ sym (exit_done v before given s e); workspace = y }
 
-pub delivered_none : (clears : Bool) (given o : Outcome) (v before w w' : List Float) (x : Refusal) → given ≡ Refused x → reported o ≡ numbered x → w' ≡ cond clears (cleared w) w
+pub delivered_none : (clears : Bool) (given o : Outcome) (v before w w' : List Float) (x : Refusal) → given ≡ Err x → reported o ≡ numbered x → w' ≡ cond clears (cleared w) w
     → Delivered clears given o v before before w w'
 delivered_none clears given o v before w w' x e k y = record { outcome = k ∙ sym (ap reported e); output = sym (exit_refused v before given x e); workspace = y }
 
 module _ (p : Profile) (c : Call) (q : Question) (h : found q ≡ asked p c) (clears : Bool) (o : Outcome) (before w : List Float) where
   -- a question refuses: output and workspace are as they were lent
-  pub one_refused : (r : Result (List Float)) (x : Refusal) → q ≡ No x → reported o ≡ numbered x → OneOutputWith clears (answer p c r) o before before w w
+  pub one_refused : (r : Result (List Float)) (x : Refusal) → q ≡ Err x → reported o ≡ numbered x → OneOutputWith clears (answer p c r) o before before w w
   one_refused r x e k = record {
     outcome = k ∙ sym (outcome_no p c r q h x e);
     output = sym (exit_no p c r q h x e (λ v. v) before);
@@ -112,7 +109,7 @@ module _ (p : Profile) (c : Call) (q : Question) (h : found q ≡ asked p c) (cl
   }
 
   -- none does: the matrix a is copied to slot 0, replaced by what g gives for it, and delivered
-  pub one_done : (ss : List ℕ) (n : ℕ) (g : List Float → Result (List Float)) (a after w1 w2 w3 : List Float) (given : Outcome) → q ≡ Passed → Late (g a)
+  pub one_done : (ss : List ℕ) (n : ℕ) (g : List Float → Result (List Float)) (a after w1 w2 w3 : List Float) (given : Outcome) → q ≡ Ok tt → Late (g a)
       → n ≤ 16 → 8192 ≤ length w → length a ≡ n * n → length before ≡ n * n → among (λ s. ltb s 32) ss ≡ true
       → w1 ≡ store w 0 a → Replaced ss n (g (slot n w1 0)) given w1 w2 → Delivered clears given o (part w2 0 (length before)) before after w2 w3 → OneOutputWith clears (answer p c (g a)) o before after w w3
   unfolding slot

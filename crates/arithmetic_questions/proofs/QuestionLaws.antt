@@ -1,29 +1,25 @@
 -- Laws of the questions asked of a call. Assumes nothing.
+use Rattle.std.specs.Prelude.{IsErrAnd, Ok, Err, Some, None}
 use Prim.Native.Nat.{ℕ, zero, suc, ◌+◌, ◌*◌, ◌≤◌, ◌<◌}
 use mathlib.Core.Path.{◌≡◌, refl, ap, sym, ◌∙◌}
 use mathlib.Core.Bool.{Bool, true, false, false≢true, cond, ◌&&◌}
 use mathlib.Core.List.{List, [], ◌∷◌, ◌++◌, map}
 use mathlib.Core.Option.{Option, none, some}
-use native.Mathlib.Nat.{zero-add, zero-mul, mul-le-mul}
+use native.Mathlib.Nat.{zero-add, mul-le-mul}
 use native.Mathlib.Omega.{arith}
 use lib.Arith.{digits_div, digits_mod}
 use lib.Dec.{T, ltb, eqb}
 use lib.ListN.{length}
-use borrow.Author.Count.{below_more}
 use borrow.Author.Tests.{leb-true, ltb-true, eqb-true}
 use lib.Ieee.{Float}
 use lib.Ieee.Scale.{finite}
 use Rattle.arithmetic_matrices.specs.Matrix.{item}
-use Rattle.arithmetic_matrices.proofs.MatrixLaws.{index_lt, more_rows}
+use Rattle.arithmetic_matrices.proofs.MatrixLaws.{index_lt}
 use Rattle.arithmetic_questions.specs.Result.{Found, refused, done, ◌>>=◌, passes, ask, first_no}
 use Rattle.arithmetic_questions.specs.Questions.{Call, unary, powered, binary, Companion, without_companion, direction, Exponent, without_exponent, Domain, anywhere, Orders, every_order, Profile, at_most, exactly, output_length, at_least8192, first_nonfinite, placed, all_finite, exponent_question, domain_question, order_question, shape_questions, number_questions, asked, coded}
-use Rattle.arithmetic_questions.specs.Answers.{numbered, scanned, found}
+use Rattle.arithmetic_questions.specs.Answers.{Question, numbered, scanned, found}
 use Rattle.arithmetic_questions.specs.declared.answer.Refusal.{Refusal}
 use Rattle.arithmetic_questions.specs.declared.answer.Refusal.TheVariants.{EmptyMatrix, NotSquare, CompanionShape, TooLarge, WrongLength, EntryNotFinite, DirectionNotFinite, ExponentNotFinite, PivotOutOfRange, NotDefined, OrderOne, NormNotFinite, NotConverged, SingularColumn, TooManyHalvings}
-use Rattle.arithmetic_questions.specs.declared.answer.Question.{Question}
-use Rattle.arithmetic_questions.specs.declared.answer.Question.TheVariants.{Passed, No}
-use Rattle.arithmetic_questions.specs.declared.question.Scan.{Scan}
-use Rattle.arithmetic_questions.specs.declared.question.Scan.TheVariants.{AllFinite, At}
 
 -- ---- one question after another
 
@@ -50,10 +46,15 @@ pub refusal_ends : (x : Refusal) (g : Unit {0} → Found) → (numbered x >>= g)
 unfolding ◌>>=◌
 refusal_ends x g = let (k, i, j, e) = as_refused x in rw e
 
+-- what `?` hands on is the refusal that it met
+pub handed_on : {r q : Question} {x : Refusal} → IsErrAnd r (λ y. y ≡ x) → q ≡ Err x → r ≡ q
+handed_on {r = Ok t} h e = absurd h
+handed_on {r = Err y} h e = ap Err h ∙ sym e
+
 pub found_ends : (q : Question) → (found q >>= λ _. passes) ≡ found q
 unfolding ◌>>=◌
-found_ends Passed = refl
-found_ends (No x) = refusal_ends x _
+found_ends (Ok _) = refl
+found_ends (Err x) = refusal_ends x _
 
 pub first_no_append : (l m : List Found) → first_no (l ++ m) ≡ (first_no l >>= λ _. first_no m)
 unfolding first_no ◌>>=◌
@@ -72,18 +73,12 @@ pub single : (q : Question) {p : Found} → found q ≡ p → Asks q (p ∷ [])
 unfolding first_no
 single q h = record { asks = rw (← h) (sym (found_ends q)) }
 
--- two lists, each asked by its own function
-pub joined : {a b : Question} {l m : List Found} (r : Question) → Asks a l → Asks b m → found r ≡ first_no (found a ∷ found b ∷ []) → Asks r (l ++ m)
-unfolding first_no
-joined {a} {b} {l} {m} r h k e =
-    record { asks = rw (first_no_append l m, ← h.asks, ← k.asks) (e ∙ ap (λ (z : Found). found a >>= λ _. z) (found_ends b)) }
-
 -- a list that refuses decides for a longer one
-pub stops : {q : Question} {l : List Found} {x : Refusal} (m : List Found) → Asks q l → q ≡ No x → Asks q (l ++ m)
+pub stops : {q : Question} {l : List Found} {x : Refusal} (m : List Found) → Asks q l → q ≡ Err x → Asks q (l ++ m)
 stops {q} {l} {x} m h e = record { asks = rw (first_no_append l m, ← h.asks, e) (sym (refusal_ends x _)) }
 
 -- and one that passes leaves the rest
-pub goes_on : {q r : Question} {l m : List Found} → Asks q l → q ≡ Passed → Asks r m → Asks r (l ++ m)
+pub goes_on : {q r : Question} {l m : List Found} → Asks q l → q ≡ Ok tt → Asks r m → Asks r (l ++ m)
 unfolding ◌>>=◌
 goes_on {q} {r} {l} {m} h e k = record { asks = rw (first_no_append l m, ← h.asks, e) k.asks }
 
@@ -119,7 +114,7 @@ module _ {A : Type 0} (P : A → Type 0) where
   each_append [] m h k = k
   each_append (p ∷ l) m h k = (h.0, each_append l m h.1 k)
 
-pub all_yes : {q : Question} {l : List Found} → Asks q l → q ≡ Passed → Each Yes l
+pub all_yes : {q : Question} {l : List Found} → Asks q l → q ≡ Ok tt → Each Yes l
 all_yes {q} {l} h e = each_yes l (rw (← h.asks, e) refl)
 
 pub ask_yes : (b : Bool) (k x y : ℕ) → Yes (ask b k x y) → b ≡ true
@@ -173,51 +168,34 @@ first_nonfinite_none q (x ∷ l) p = rw (p 0 (omega arith)) (first_nonfinite_non
 module _ (columns : ℕ) (a : List Float) where
   scanned_at :
       (i j : ℕ) → j < columns → i * columns + j < length a → ((k : ℕ) → k < i * columns + j → finite (item a k) ≡ true)
-      → finite (item a (i * columns + j)) ≡ false → (number : ℕ) → scanned number (At i j) ≡ all_finite number columns a
+      → finite (item a (i * columns + j)) ≡ false → (number : ℕ) → scanned number (Some (i, j)) ≡ all_finite number columns a
   unfolding all_finite placed
   scanned_at i j hj h p e number =
       rw (first_nonfinite_at 0 a (i * columns + j) h p e, zero-add, digits_div i {m = columns} {r = j} hj, digits_mod i {m = columns} {r = j} hj)
 
-  scanned_none : ((k : ℕ) → k < length a → finite (item a k) ≡ true) → (number : ℕ) → scanned number AllFinite ≡ all_finite number columns a
+  scanned_none : ((k : ℕ) → k < length a → finite (item a k) ≡ true) → (number : ℕ) → scanned number None ≡ all_finite number columns a
   unfolding all_finite placed
   scanned_none p number = rw (first_nonfinite_none 0 a p)
 
--- all entries of a, of rows by columns, that stand before entry (i, j) are finite, and the answer is still that all are
-pub record FiniteBefore (a : List Float) (rows columns : ℕ) (answer : Scan) (i j : ℕ) : Type 0 where
+-- all entries of a, of rows by columns, that stand before entry (i, j) are finite
+pub record FiniteBefore (a : List Float) (rows columns i j : ℕ) : Type 0 where
   pub size : length a ≡ rows * columns
   pub row : i ≤ rows
   pub column : j ≤ columns
-  pub outcome : answer ≡ AllFinite
   pub before : (k : ℕ) → k < i * columns + j → finite (item a k) ≡ true
 
-pub finite_start : {a : List Float} {rows columns : ℕ} → length a ≡ rows * columns → FiniteBefore a rows columns AllFinite 0 0
-finite_start {columns = columns} e = record { size = e; row = omega arith; column = omega arith; outcome = refl; before = λ k h. absurd (omega (arith, zero-mul columns)) }
-
-module _ {a : List Float} {rows columns : ℕ} {answer : Scan} {i j : ℕ} (s : FiniteBefore a rows columns answer i j) where
+module _ {a : List Float} {rows columns i j : ℕ} (s : FiniteBefore a rows columns i j) where
   -- the last row is done
-  pub finite_end : rows ≤ i → (number : ℕ) → scanned number answer ≡ all_finite number columns a
+  pub finite_end : rows ≤ i → (number : ℕ) → scanned number None ≡ all_finite number columns a
   finite_end h number =
       let e : i ≡ rows = omega arith in
-      rw s.outcome (scanned_none columns a (λ k l. s.before k (rw e (omega arith))) number)
+      scanned_none columns a (λ k l. s.before k (rw e (omega arith))) number
 
-  -- a row is done
-  pub finite_row : i < rows → columns ≤ j → FiniteBefore a rows columns answer (i + 1) 0
-  finite_row r h = record { size = s.size; row = omega arith; column = omega arith; outcome = s.outcome; before = λ k l. s.before k (omega (arith, more_rows i columns)) }
-
-  -- entry (i, j) lies in a; it is finite, or the scan ends with it
+  -- entry (i, j) lies in a, and the scan ends with it where it is not finite
   pub finite_inside : i < rows → j < columns → i * columns + j < length a
   finite_inside r h = omega (arith, index_lt r h)
 
-  pub finite_turn : j < columns → finite (item a (i * columns + j)) ≡ true → FiniteBefore a rows columns answer i (j + 1)
-  finite_turn h e = record {
-    size = s.size;
-    row = s.row;
-    column = omega arith;
-    outcome = s.outcome;
-    before = λ k l. below_more (λ (q : ℕ). finite (item a q) ≡ true) (i * columns + j) s.before e k (omega arith);
-  }
-
-  pub finite_at : i < rows → j < columns → finite (item a (i * columns + j)) ≡ false → (number : ℕ) → scanned number (At i j) ≡ all_finite number columns a
+  pub finite_at : i < rows → j < columns → finite (item a (i * columns + j)) ≡ false → (number : ℕ) → scanned number (Some (i, j)) ≡ all_finite number columns a
   finite_at r h e = scanned_at columns a i j h (finite_inside r h) s.before e
 
 -- no entry is found: each is finite
@@ -273,11 +251,11 @@ told_asked p c q h = record { asks = h }
 
 -- those of 1 to 5 and then the others, each part asked by its own function
 module _ (p : Profile) (c : Call) (q : Question) (h : found q ≡ first_no (shape_questions p c)) where
-  pub shape_no : {x : Refusal} → q ≡ No x → found q ≡ asked p c
+  pub shape_no : {x : Refusal} → q ≡ Err x → found q ≡ asked p c
   unfolding asked
   shape_no e = (stops {l = shape_questions p c} (number_questions p c) (record { asks = h }) e).asks
 
-  pub shape_passed : q ≡ Passed → (r : Question) → found r ≡ first_no (number_questions p c) → found r ≡ asked p c
+  pub shape_passed : q ≡ Ok tt → (r : Question) → found r ≡ first_no (number_questions p c) → found r ≡ asked p c
   unfolding asked
   shape_passed e r k = (goes_on {r = r} {l = shape_questions p c} {m = number_questions p c} (record { asks = h }) e (record { asks = k })).asks
 
@@ -337,11 +315,11 @@ module _ (beside : Companion) (power : Exponent) (domain : Domain) (orders : Ord
 
   module _ (q : Question) (h : found q ≡ asked (base beside) c) where
     -- a refusal of 1 to 7 is the function's
-    pub rest_no : {x : Refusal} → q ≡ No x → found q ≡ asked (coded beside power domain orders) c
+    pub rest_no : {x : Refusal} → q ≡ Err x → found q ≡ asked (coded beside power domain orders) c
     rest_no e = rw asked_rest (stops (rest power domain orders c) (told_asked (base beside) c q h) e).asks
 
     -- and after them the rest decides
-    pub rest_asked : (r : Question) → q ≡ Passed → found r ≡ first_no (rest power domain orders c) → found r ≡ asked (coded beside power domain orders) c
+    pub rest_asked : (r : Question) → q ≡ Ok tt → found r ≡ first_no (rest power domain orders c) → found r ≡ asked (coded beside power domain orders) c
     rest_asked r e k = rw asked_rest (goes_on (told_asked (base beside) c q h) e (told r k)).asks
 
 -- ---- what a call is known to be once its questions passed
@@ -394,7 +372,7 @@ module _ (beside : Companion) (power : Exponent) (domain : Domain) (orders : Ord
       }
 
   -- each question of a call that passed
-  passed : (q : Question) → found q ≡ asked (coded beside power domain orders) c → q ≡ Passed
+  passed : (q : Question) → found q ≡ asked (coded beside power domain orders) c → q ≡ Ok tt
       → Each Yes (shape_questions (coded beside power domain orders) c) × Each Yes (number_questions (coded beside power domain orders) c)
   passed q h e = each_parts Yes (shape_questions (coded beside power domain orders) c) _ (all_yes (told_asked (coded beside power domain orders) c q h) e)
 
@@ -423,14 +401,14 @@ module _ (power : Exponent) (domain : Domain) (orders : Orders) (c : Call) where
 
   module _ (q : Question) where
     -- a function of one matrix
-    pub accepted : found q ≡ asked (coded without_companion power domain orders) c → q ≡ Passed → Accepted c
+    pub accepted : found q ≡ asked (coded without_companion power domain orders) c → q ≡ Ok tt → Accepted c
     accepted h e =
         let (s, n) = passed without_companion power domain orders c q h e in
         let shape = alone_shape s in
         record { shape = shape; entries = entries_finite without_companion power domain orders c shape n }
 
     -- and of a matrix with a direction
-    pub accepted_directed : found q ≡ asked (coded direction power domain orders) c → q ≡ Passed → Accepted c × AcceptedDirection c
+    pub accepted_directed : found q ≡ asked (coded direction power domain orders) c → q ≡ Ok tt → Accepted c × AcceptedDirection c
     accepted_directed h e =
         let (s, n) = passed direction power domain orders c q h e in
         let shape = beside_shape s in

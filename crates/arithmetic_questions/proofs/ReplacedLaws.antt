@@ -1,4 +1,5 @@
 -- A matrix in slot 0 that is replaced: once, with more slots, and by one call after another, where the first may be refused. Assumes nothing.
+use Rattle.std.specs.Prelude.{Ok, Err}
 use mathlib.Core.Path.{◌≡◌, refl, ◌∙◌}
 use mathlib.Core.List.{List}
 use mathlib.Core.Bool.{true}
@@ -6,11 +7,9 @@ use Prim.Native.Nat.{ℕ}
 use lib.Ieee.{Float}
 use Rattle.arithmetic_matrices.specs.Workspace.{slot, member, Only}
 use Rattle.arithmetic_questions.specs.Result.{Result, done, ◌>>=◌, outcome, exit}
-use Rattle.arithmetic_questions.specs.Answers.{numbered, reported}
+use Rattle.arithmetic_questions.specs.Answers.{Outcome, numbered, reported}
 use Rattle.arithmetic_questions.specs.Kernels.{Replaced}
 use Rattle.arithmetic_questions.specs.declared.answer.Refusal.{Refusal}
-use Rattle.arithmetic_questions.specs.declared.answer.Outcome.{Outcome}
-use Rattle.arithmetic_questions.specs.declared.answer.Outcome.TheVariants.{Done, Refused}
 use Rattle.arithmetic_matrices.proofs.Slots.{only_trans, only_more}
 use Rattle.arithmetic_matrices.proofs.States.{among, member_among}
 use Rattle.arithmetic_questions.proofs.BothLaws.{call_done, call_refused}
@@ -27,13 +26,13 @@ replaced_more ss first n x o w w1 w2 k R m = record { outcome = R.outcome; resul
 -- ---- one matrix and then another
 
 module _ (ss : List ℕ) (n : ℕ) (x : Result (List Float)) (g : List Float → Result (List Float)) (first : List ℕ) (o : Outcome) (w w1 : List Float) (R : Replaced first n x o w w1) where
-  pub then_refused : (y : Refusal) (o' : Outcome) → o ≡ Refused y → reported o' ≡ numbered y → among (member ss) first ≡ true → Replaced ss n (x >>= g) o' w w1
+  pub then_refused : (y : Refusal) (o' : Outcome) → o ≡ Err y → reported o' ≡ numbered y → among (member ss) first ≡ true → Replaced ss n (x >>= g) o' w w1
   unfolding ◌>>=◌ outcome exit
   then_refused y o' e h m =
       let (k, i, j, ex, en) = call_refused x o y R.outcome e in
       rw ex (record { outcome = h ∙ en; result = refl; only = only_more (member_among (member ss) first m) R.only })
 
-  pub then_replaced : (s : ℕ) (second : List ℕ) (o' : Outcome) (w2 : List Float) → o ≡ Done s → Replaced second n (g (slot n w1 0)) o' w1 w2
+  pub then_replaced : (s : ℕ) (second : List ℕ) (o' : Outcome) (w2 : List Float) → o ≡ Ok s → Replaced second n (g (slot n w1 0)) o' w1 w2
       → among (member ss) first ≡ true → among (member ss) second ≡ true → Replaced ss n (x >>= g) o' w w2
   unfolding ◌>>=◌
   then_replaced s second o' w2 e R' m m' =

@@ -1,4 +1,5 @@
 -- What a call or a part of it reports goes by its outcome. Assumes nothing.
+use Rattle.std.specs.Prelude.{Ok}
 use Prim.Native.Nat.{ℕ, ◌+◌, ◌*◌, ◌≤◌, ◌<◌}
 use native.Mathlib.Omega.{arith}
 use mathlib.Core.Path.{◌≡◌, refl, sym, ap, ◌∙◌}
@@ -13,12 +14,8 @@ use Rattle.arithmetic_matrices.proofs.MatrixLaws.{square_le}
 use Rattle.arithmetic_matrices.proofs.Slots.{length-store, slot_store, slot_other, slots_apart}
 use Rattle.arithmetic_questions.specs.Result.{Result, refused, done, outcome, exit}
 use Rattle.arithmetic_questions.specs.Questions.{Call, Profile, asked, answer}
-use Rattle.arithmetic_questions.specs.Answers.{numbered, reported, found}
+use Rattle.arithmetic_questions.specs.Answers.{Question, Outcome, numbered, reported, found}
 use Rattle.arithmetic_questions.specs.Reports.{nothing, beside, refused_report, report_at}
-use Rattle.arithmetic_questions.specs.declared.answer.Outcome.{Outcome}
-use Rattle.arithmetic_questions.specs.declared.answer.Outcome.TheVariants.{Done}
-use Rattle.arithmetic_questions.specs.declared.answer.Question.{Question}
-use Rattle.arithmetic_questions.specs.declared.answer.Question.TheVariants.{Passed}
 use Rattle.arithmetic_questions.specs.declared.answer.Refusal.{Refusal}
 use Rattle.arithmetic_questions.specs.declared.answer.Report.{Report}
 use Rattle.arithmetic_questions.proofs.QuestionLaws.{as_refused}
@@ -67,11 +64,11 @@ report_delivered_both x y v ρ ρ' o given n t a d w w1 w2 small room size size'
     e' ∙ e ∙ (λ i. report_at y (v (a2 i) (d2 i))) ∙ sym (report_as y (v a d) given k) ∙ ap (λ (z : Result (Unit {0})). report_at z (v a d)) (sym q) ∙ report_as x (v a d) o h
 
 -- no question refuses: the call reports what its function does
-pub report_passed : {A : Type 0} (p : Profile) (c : Call) (q : Question) (h : found q ≡ asked p c) (x : Result A) (v ρ : Report) → q ≡ Passed → ρ ≡ report_at x v → ρ ≡ report_at (answer p c x) v
+pub report_passed : {A : Type 0} (p : Profile) (c : Call) (q : Question) (h : found q ≡ asked p c) (x : Result A) (v ρ : Report) → q ≡ Ok tt → ρ ≡ report_at x v → ρ ≡ report_at (answer p c x) v
 report_passed p c q h x v ρ t e = rw (answer_passed p c x q h t) e
 
 -- what a part that is done reports, out of its contract
-pub report_of_lem : {A : Type 0} (x : Result A) (v ρ : Report) (o : Outcome) (s : ℕ) → o ≡ Done s → reported o ≡ outcome x → ρ ≡ report_at x v → ρ ≡ v
+pub report_of_lem : {A : Type 0} (x : Result A) (v ρ : Report) (o : Outcome) (s : ℕ) → o ≡ Ok s → reported o ≡ outcome x → ρ ≡ report_at x v → ρ ≡ v
 unfolding report_at exit
 report_of_lem x v ρ o s eo h e = e ∙ sym (report_as x v o h) ∙ ap (λ (z : Outcome). report_at (reported z) v) eo
 

@@ -1,14 +1,16 @@
--- What the enums of src/answer.rt and src/question.rt mean: the documents' number and details for each case. Definitions only.
-use Rattle.std.specs.Prelude.{ℕ}
+-- What the enum of src/answer.rt and the results of src/question.rt mean: the documents' number and details for each case. Definitions only.
+use Rattle.std.specs.Prelude.{ℕ, ⊤, Option, Some, None, Result as StdResult, Ok, Err}
 use Rattle.arithmetic_questions.specs.Result.{Result, Found, refused, done, passes}
 use Rattle.arithmetic_questions.specs.declared.answer.Refusal.{Refusal}
 use Rattle.arithmetic_questions.specs.declared.answer.Refusal.TheVariants.{EmptyMatrix, NotSquare, CompanionShape, TooLarge, WrongLength, EntryNotFinite, DirectionNotFinite, ExponentNotFinite, PivotOutOfRange, NotDefined, OrderOne, NormNotFinite, NotConverged, SingularColumn, TooManyHalvings}
-use Rattle.arithmetic_questions.specs.declared.answer.Outcome.{Outcome}
-use Rattle.arithmetic_questions.specs.declared.answer.Outcome.TheVariants.{Done, Refused}
-use Rattle.arithmetic_questions.specs.declared.answer.Question.{Question}
-use Rattle.arithmetic_questions.specs.declared.answer.Question.TheVariants.{Passed, No}
-use Rattle.arithmetic_questions.specs.declared.question.Scan.{Scan}
-use Rattle.arithmetic_questions.specs.declared.question.Scan.TheVariants.{AllFinite, At}
+
+-- how a call ended: done, with its halvings, or refused
+abbrev pub Outcome : Type 0
+Outcome = StdResult ℕ Refusal
+
+-- the answer to a question
+abbrev pub Question : Type 0
+Question = StdResult ⊤ Refusal
 
 -- the number and the two details of a refusal
 abbrev pub numbered : Refusal → Result (Unit {0})
@@ -30,15 +32,15 @@ numbered (TooManyHalvings s) = refused 17 s 0
 
 -- what the outcome of an answer reports: its halvings, or its refusal
 abbrev pub reported : Outcome → Result (Unit {0})
-reported (Done s) = done s tt
-reported (Refused x) = numbered x
+reported (Ok s) = done s tt
+reported (Err x) = numbered x
 
 -- what question 6 or 7, `number`, finds where the search for an entry that is not finite gave this
-abbrev pub scanned : ℕ → Scan → Found
-scanned number AllFinite = passes
-scanned number (At i j) = refused number i j
+abbrev pub scanned : ℕ → Option (ℕ × ℕ) → Found
+scanned number None = passes
+scanned number (Some p) = refused number p.0 p.1
 
 -- what the answer to a question says: it passes, or the refusal
 abbrev pub found : Question → Found
-found Passed = passes
-found (No x) = numbered x
+found (Ok _) = passes
+found (Err x) = numbered x

@@ -3,8 +3,7 @@
 use Rattle.std.specs.Prelude.{ℕ, ◌≡◌, Bool, cond, List, Float}
 use Rattle.arithmetic_matrices.specs.Workspace.{slot, member, Only, cleared}
 use Rattle.arithmetic_questions.specs.Result.{Result, exit, outcome as outcome_of}
-use Rattle.arithmetic_questions.specs.Answers.{reported}
-use Rattle.arithmetic_questions.specs.declared.answer.Outcome.{Outcome}
+use Rattle.arithmetic_questions.specs.Answers.{Outcome, reported}
 use Rattle.arithmetic_questions.specs.Outputs.{Both}
 
 -- The matrix of order n in slot 0 is replaced by what the definition gives, x. o is the outcome. Only the slots ss change; after a refusal slot 0 holds anything.

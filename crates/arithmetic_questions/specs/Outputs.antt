@@ -1,8 +1,7 @@
 -- What a call leaves, of the result that its definition gives. Definitions only.
 use Rattle.std.specs.Prelude.{◌≡◌, Bool, true, false, List, Float}
 use Rattle.arithmetic_questions.specs.Result.{Result, exit, outcome as outcome_of, workspace as workspace_of}
-use Rattle.arithmetic_questions.specs.Answers.{reported}
-use Rattle.arithmetic_questions.specs.declared.answer.Outcome.{Outcome}
+use Rattle.arithmetic_questions.specs.Answers.{Outcome, reported}
 
 -- In all of these x is what the definition gives and o the answer's outcome; an output was lent as `before` and is left as `after`, a workspace was lent as w and is left as w'.
 

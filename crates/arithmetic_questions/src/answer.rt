@@ -6,7 +6,8 @@ ghost use Rattle.arithmetic_questions.specs.Result.{done as done_with};
 ghost use Rattle.arithmetic_questions.specs.Answers.{numbered, reported};
 ghost use Rattle.arithmetic_questions.specs.Reports.{nothing as nothing_reported, iterated as iterated_of, beside as beside_of, refused_report, report_at};
 
-use arithmetic_floats::float::{bits_of, smaller};
+use arithmetic_floats::compare::smaller;
+use arithmetic_floats::double::bits_of;
 
 // Why a call is refused. specs/Answers.antt gives each case its number.
 #[derive(Clone, Copy)]
@@ -28,12 +29,8 @@ pub enum Refusal {
     TooManyHalvings(usize),
 }
 
-// How a call ended.
-#[derive(Clone, Copy)]
-pub enum Outcome {
-    Done { halvings: u64 },
-    Refused(Refusal),
-}
+// How a call ended: done, with its halvings, or refused.
+pub type Outcome = Result<u64, Refusal>;
 
 // What an answer reports beside its outcome.
 // smallest: the smallest magnitude of a pivot over all LU factorings of the run that succeeded, NaN pivots skipped; plus infinity where there is none, and
@@ -51,13 +48,6 @@ pub struct Report {
 pub struct Answer {
     pub outcome: Outcome,
     pub report: Report,
-}
-
-// What a question finds.
-#[derive(Clone, Copy)]
-pub enum Question {
-    Passed,
-    No(Refusal),
 }
 
 // The bits of the smallest pivot.
@@ -110,7 +100,7 @@ pub fn refused(why: Refusal) -> Answer
     ensures report_value { result.report ≡ refused_report }
 {
     Answer {
-        outcome: Outcome::Refused(why),
+        outcome: Err(why),
         report: refused_report(),
     }
 }
@@ -121,7 +111,7 @@ pub fn done(halvings: u64) -> Answer
     ensures report_value { result.report ≡ nothing_reported }
 {
     Answer {
-        outcome: Outcome::Done { halvings },
+        outcome: Ok(halvings),
         report: nothing(),
     }
 }
@@ -132,12 +122,12 @@ pub fn answering(outcome: Outcome, report: Report) -> Answer
     ensures report_value { result.report ≡ report_at (reported outcome) report }
 {
     match outcome {
-        Outcome::Done { halvings } => Answer {
-            outcome: Outcome::Done { halvings },
+        Ok(halvings) => Answer {
+            outcome: Ok(halvings),
             report,
         },
-        Outcome::Refused(why) => Answer {
-            outcome: Outcome::Refused(why),
+        Err(why) => Answer {
+            outcome: Err(why),
             report: refused_report(),
         },
     }

@@ -13,8 +13,7 @@ use lib.Ieee.Bits.{is_true, is_false}
 use Rattle.arithmetic_floats.specs.Float.{+zero}
 use Rattle.arithmetic_matrices.specs.Matrix.{at}
 use Rattle.arithmetic_questions.specs.Result.{done}
-use Rattle.arithmetic_questions.specs.Answers.{numbered, reported}
-use Rattle.arithmetic_questions.specs.declared.answer.Outcome.{Outcome}
+use Rattle.arithmetic_questions.specs.Answers.{Outcome, numbered, reported}
 use Rattle.arithmetic_questions.specs.declared.answer.Refusal.{Refusal}
 use Rattle.arithmetic_matrices.proofs.MatrixLaws.{at-grid, grid_is}
 use Rattle.arithmetic_matrices.proofs.Corner.{Corner}

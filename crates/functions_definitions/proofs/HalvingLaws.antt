@@ -1,4 +1,5 @@
 -- What the halvings that a norm sets decide. Assumes nothing.
+use Rattle.std.specs.Prelude.{Ok, Err}
 use Prim.Native.Nat.{ℕ, ◌≤◌}
 use mathlib.Core.Path.{◌≡◌, refl, sym, ap, ◌∙◌, subst}
 use mathlib.Core.Bool.{Bool, true, false}
@@ -9,9 +10,7 @@ use lib.Ieee.Scale.{finite}
 use Rattle.arithmetic_floats.specs.Float.{halvings}
 use Rattle.arithmetic_questions.specs.Result.{Result, Found, refused, done, ◌>>=◌, outcome, passes, ask, first_no}
 use Rattle.arithmetic_questions.specs.Questions.{norm_question, halvings_question}
-use Rattle.arithmetic_questions.specs.Answers.{numbered, found}
-use Rattle.arithmetic_questions.specs.declared.answer.Question.{Question}
-use Rattle.arithmetic_questions.specs.declared.answer.Question.TheVariants.{Passed, No}
+use Rattle.arithmetic_questions.specs.Answers.{Question, numbered, found}
 use Rattle.arithmetic_questions.specs.declared.answer.Refusal.{Refusal}
 use Rattle.arithmetic_questions.proofs.QuestionLaws.{as_refused, refusal_ends}
 use Rattle.arithmetic_questions.proofs.OutputLaws.{Late}
@@ -46,26 +45,26 @@ asked_report x q r e d = (λ i. e i >>= λ _. d i >>= λ _. done (halvings x) tt
     go false c = refl
 
 module _ (x : Float) (q : Question) (asked : found q ≡ norm_question x) where
-  pub passed_finite : q ≡ Passed → T (finite x)
+  pub passed_finite : q ≡ Ok tt → T (finite x)
   passed_finite e = go (finite x) (sym (ap found e) ∙ asked)
     where
       go : (b : Bool) → passes ≡ ask b 12 0 0 → T b
       go true p = tt
       go false p = absurd (subst IsDone p tt)
 
-  pub norm_refused : (y : Refusal) → q ≡ No y → numbered y ≡ halvings_report x
+  pub norm_refused : (y : Refusal) → q ≡ Err y → numbered y ≡ halvings_report x
   norm_refused y e = sym (refusal_ends y _) ∙ asked_report x (numbered y) _ (sym (ap found e) ∙ asked) refl
 
   -- 12 passes, and s halvings are asked
-  module _ (passed : q ≡ Passed) (s : ℕ) (count : s ≡ halvings x) (r : Question) (limited : found r ≡ halvings_question s) where
+  module _ (passed : q ≡ Ok tt) (s : ℕ) (count : s ≡ halvings x) (r : Question) (limited : found r ≡ halvings_question s) where
     reports : (z : Found) → z ≡ found r → (z >>= λ _. done s tt) ≡ halvings_report x
     unfolding ◌>>=◌
     reports z e = ap (λ (t : ℕ). z >>= λ _. done t (tt {0})) count ∙ asked_report x passes z (sym (ap found passed) ∙ asked) (e ∙ limited ∙ ap halvings_question count)
 
-    pub halvings_refused : (y : Refusal) → r ≡ No y → numbered y ≡ halvings_report x
+    pub halvings_refused : (y : Refusal) → r ≡ Err y → numbered y ≡ halvings_report x
     halvings_refused y e = sym (refusal_ends y _) ∙ reports (numbered y) (sym (ap found e))
 
-    pub halvings_passed : r ≡ Passed → done s tt ≡ halvings_report x
+    pub halvings_passed : r ≡ Ok tt → done s tt ≡ halvings_report x
     unfolding ◌>>=◌
     halvings_passed e = reports passes (sym (ap found e))
 

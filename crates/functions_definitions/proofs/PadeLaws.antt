@@ -1,5 +1,6 @@
 -- The Padé quotient and the exponential of a matrix of order N that has a matrix of order n for its upper left corner, and zeros below that: they act on
 -- the corner as on the matrix of order n alone, where each number that they form is finite and LU accepts the denominator. Assumes nothing.
+use Rattle.std.specs.Prelude.{Ok, Err}
 use mathlib.Core.Path.{◌≡◌, refl, sym, ◌∙◌, subst, subst₂}
 use mathlib.Core.List.{List}
 use mathlib.Core.Bool.{false}
@@ -8,8 +9,6 @@ use native.Mathlib.Nat.{lt_of_lt_of_le}
 use native.Mathlib.Omega.{arith}
 use lib.ListN.{length}
 use lib.Ieee.{Float, Format, prec}
-use Rattle.lu_factoring.specs.declared.LuOutcome.{LuOutcome}
-use Rattle.lu_factoring.specs.declared.LuOutcome.TheVariants.{Factored, Singular}
 use Rattle.arithmetic_floats.specs.Float.{inverse_power_of_two}
 use Rattle.arithmetic_matrices.specs.Matrix.{at, item, column}
 use Rattle.arithmetic_matrices.specs.Product.{dot}
@@ -17,7 +16,7 @@ use Rattle.arithmetic_floats.proofs.Zero.{mul_zero_right, Fits, Plus, Zero}
 use Rattle.arithmetic_matrices.proofs.MatrixLaws.{at-grid, item-column, length-grid}
 use Rattle.arithmetic_matrices.proofs.ProductLaws.{dot_cong, length-squared}
 use Rattle.arithmetic_matrices.proofs.Corner.{Corner, product_corner, identity_corner, dot_zero, dot_fits, dot_plus, scale_corner, squared_corner}
-use Rattle.lu_factoring.specs.Lu.{lu_factors, lu_pivots, lu_outcome}
+use Rattle.lu_factoring.specs.Lu.{LuOutcome, lu_factors, lu_pivots, lu_outcome}
 use Rattle.lu_factoring.specs.Solve.{stand_in, quotient, solution, solved_matrix}
 use Rattle.lu_factoring.specs.Finite.{FiniteFactors, FiniteSolution}
 use Rattle.lu_factoring.proofs.Tolerance.{tolerance_mono}
@@ -83,18 +82,18 @@ module _ (f : Format) (n N : ℕ) (n≤N : n ≤ N) where
       }
 
   module _ (few : N ≤ 2 ^ prec f) where
-    pade_corner : (a A : List Float) → Corner n N a A → FinitePade f N A → lu_outcome f N (denominator f N A) ≡ Factored → Corner n N (pade f n a) (pade f N A)
+    pade_corner : (a A : List Float) → Corner n N a A → FinitePade f N A → lu_outcome f N (denominator f N A) ≡ Ok tt → Corner n N (pade f n a) (pade f N A)
     unfolding pade
     pade_corner a A c ok acc =
         let cn : Corner n N (numerator f n a) (numerator f N A) = unfold numerator in combination_corner (coefficient f) a A c ok.powers ok.above in
         let cd : Corner n N (denominator f n a) (denominator f N A) = unfold denominator in combination_corner (flipped f) a A c ok.powers ok.under in
-        let acc' : lu_outcome f n (denominator f n a) ≡ Factored = outcome_corner f n N n≤N (denominator f n a) (denominator f N A) cd ok.factors (tolerance_mono f n N n≤N few) acc in
+        let acc' : lu_outcome f n (denominator f n a) ≡ Ok tt = outcome_corner f n N n≤N (denominator f n a) (denominator f N A) cd ok.factors (tolerance_mono f n N n≤N few) acc in
         let q = quotient f n (denominator f n a) (numerator f n a) in
         let Q = quotient f N (denominator f N A) (numerator f N A) in
         subst₂ (λ (o O : LuOutcome). Corner n N (stand_in o q (numerator f n a)) (stand_in O Q (numerator f N A))) (sym acc') (sym acc)
         (quotient_corner (denominator f n a) (denominator f N A) (numerator f n a) (numerator f N A) cd ok.factors cn (numerator_sound a) ok.columns)
 
-    pub exponential_corner : (s : ℕ) (a A : List Float) → Corner n N a A → FiniteRun f N s A → lu_outcome f N (denominator f N (scaled f N s A)) ≡ Factored → Corner n N (exponential f n s a) (exponential f N s A)
+    pub exponential_corner : (s : ℕ) (a A : List Float) → Corner n N a A → FiniteRun f N s A → lu_outcome f N (denominator f N (scaled f N s A)) ≡ Ok tt → Corner n N (exponential f n s a) (exponential f N s A)
     unfolding exponential
     exponential_corner s a A c ok acc =
         let cs : Corner n N (scaled f n s a) (scaled f N s A) = unfold scaled in scale_corner f n N n≤N (inverse_power_of_two s) a A c ok.entries in
@@ -107,8 +106,8 @@ unfolding pade
 length-pade f n a = go (lu_outcome f n (denominator f n a))
   where
     go : (o : LuOutcome) → length (stand_in o (quotient f n (denominator f n a) (numerator f n a)) (numerator f n a)) ≡ n * n
-    go Factored = unfold quotient solved_matrix solution in length-grid n n (λ i j. item (solution f n (denominator f n a) (numerator f n a) j) i)
-    go (Singular k) = unfold numerator combination combination_to in length-grid n n (λ i j. dot f 14 (coefficient f) (λ k. at n (power f n a k) i j))
+    go (Ok _) = unfold quotient solved_matrix solution in length-grid n n (λ i j. item (solution f n (denominator f n a) (numerator f n a) j) i)
+    go (Err bad) = unfold numerator combination combination_to in length-grid n n (λ i j. dot f 14 (coefficient f) (λ k. at n (power f n a k) i j))
 
 pub length-exponential : (f : Format) (n s : ℕ) (a : List Float) → length (exponential f n s a) ≡ n * n
 unfolding exponential

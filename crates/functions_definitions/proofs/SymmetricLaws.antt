@@ -14,12 +14,12 @@ use Rattle.arithmetic_questions.specs.Result.{Result, refused, done, ◌>>=◌, 
 use Rattle.arithmetic_questions.specs.Outputs.{Both, TwoOutputsIn}
 use Rattle.arithmetic_questions.specs.Questions.{answer, binary, of_frechet_sqrtm}
 use Rattle.arithmetic_questions.specs.Reports.{nothing, beside, report_at}
-use Rattle.arithmetic_questions.specs.declared.answer.Outcome.{Outcome}
 use Rattle.arithmetic_questions.specs.declared.answer.Report.{Report}
 use Rattle.functions_definitions.specs.Roots.{or_not_converged, square_root}
 use Rattle.functions_definitions.specs.Derivatives.{added_where, sylvester_entry, sylvester_matrix, column_division, sylvester, scalar_derivative, root_derivative, root_with_derivative, frechet_sqrt_m, frechet_sqrt_sylvester_m, Symmetric, SymmetricRoot}
 use Rattle.functions_definitions.specs.Reports.{lu_report, followed, root_report, root_derivative_report, root_with_derivative_report, frechet_sqrt_report, frechet_sqrt_sylvester_report}
 use Rattle.functions_definitions.specs.Calls.{frechet_sqrtm, frechet_sqrtm_sylvester}
+use Rattle.arithmetic_questions.specs.Answers.{Outcome}
 
 module _ (f : Format) (n : ℕ) (s : List Float) (h : Symmetric n s) where
   -- the system reads of T the entries that S has, too

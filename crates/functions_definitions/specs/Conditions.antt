@@ -2,8 +2,7 @@
 use Rattle.std.specs.Prelude.{◌≡◌}
 use Rattle.arithmetic_floats.specs.Float.{+zero}
 use Rattle.arithmetic_questions.specs.Result.{Result, exit, outcome as outcome_of}
-use Rattle.arithmetic_questions.specs.Answers.{reported}
-use Rattle.arithmetic_questions.specs.declared.answer.Outcome.{Outcome}
+use Rattle.arithmetic_questions.specs.Answers.{Outcome, reported}
 use Rattle.functions_definitions.specs.Derivatives.{Condition}
 
 -- what stands beside a refusal: +0 three times

@@ -1,12 +1,10 @@
 -- Demand 3: the first output of frechet_expm depends on A alone, and not on the direction E. `frechet_expm` has `FirstAlone` among its clauses, for all
 -- input; the theorem behind it is `first_output_alone` of proofs/FirstOutput.antt. Definitions only.
-use Rattle.std.specs.Prelude.{ℕ, ◌+◌, ◌≡◌, List, Float}
+use Rattle.std.specs.Prelude.{ℕ, ◌+◌, ◌≡◌, List, Float, Ok}
 use Rattle.std.specs.Float.{Format}
 use Rattle.arithmetic_questions.specs.Result.{done}
-use Rattle.arithmetic_questions.specs.Answers.{reported}
-use Rattle.arithmetic_questions.specs.declared.answer.Outcome.{Outcome}
+use Rattle.arithmetic_questions.specs.Answers.{Outcome, reported}
 use Rattle.lu_factoring.specs.Lu.{lu_outcome}
-use Rattle.lu_factoring.specs.declared.LuOutcome.TheVariants.{Factored}
 use Rattle.functions_definitions.specs.Exponential.{denominator, scaled, exponential, block}
 use Rattle.functions_definitions.specs.Finite.{FiniteRun}
 
@@ -14,7 +12,7 @@ use Rattle.functions_definitions.specs.Finite.{FiniteRun}
 -- crates/samples_provisos/specs/Provisos.antt has runs that meet it, and one that does not, whose first output is another.
 pub record Proviso (f : Format) (n s : ℕ) (a e : List Float) : Type 0 where
   pub finite : FiniteRun f (n + n) s (block n a e)
-  pub accepted : lu_outcome f (n + n) (denominator f (n + n) (scaled f (n + n) s (block n a e))) ≡ Factored
+  pub accepted : lu_outcome f (n + n) (denominator f (n + n) (scaled f (n + n) s (block n a e))) ≡ Ok tt
 
 -- Where the outcome o is done at s halvings and the proviso holds, the first output is the exponential of A alone at s, bit for bit. E occurs in the
 -- proviso only. (s is the one that the run reports, of the block's norm and at most 64; the public expm takes that of A's norm.)

@@ -1,39 +1,35 @@
 -- Laws of a run of the exponential in a workspace: a term of the Padé sums, a power, and the quotient or the numerator in its place. Assumes nothing.
+use Rattle.std.specs.Prelude.{Ok, Err}
 use mathlib.Core.Path.{◌≡◌, refl, sym, ap, ◌∙◌, subst}
 use mathlib.Core.List.{List, [], ◌∷◌}
 use mathlib.Core.Bool.{Bool}
-use Prim.Native.Nat.{ℕ, zero, suc, ◌+◌, ◌-◌, ◌*◌, ◌≤◌, ◌<◌}
+use Prim.Native.Nat.{ℕ, zero, suc, ◌+◌, ◌-◌, ◌*◌, ◌^◌, ◌≤◌, ◌<◌}
 use native.Mathlib.Numerals.{add-one}
 use native.Mathlib.Omega.{arith}
-use lib.Dec.{lit<}
+use lib.Dec.{lit<, lit≤}
 use lib.ListN.{length, take, drop}
-use lib.Ieee.{Float, Format, add, mul, of_bits, emax, hid}
+use lib.Ieee.{Float, Format, binary32, binary64, add, mul, emax, prec}
 use borrow.Author.Tests.{eq-eqb, ne_eqb}
-use Rattle.lu_factoring.specs.declared.LuOutcome.{LuOutcome}
-use Rattle.lu_factoring.specs.declared.LuOutcome.TheVariants.{Factored, Singular}
-use Rattle.arithmetic_floats.specs.Float.{+zero, inverse_power_of_two}
-use Rattle.arithmetic_floats.proofs.Constants.{one_bits}
+use Rattle.arithmetic_floats.specs.Float.{+zero, one, inverse_power_of_two}
 use Rattle.arithmetic_matrices.specs.Matrix.{at, item, part}
 use Rattle.arithmetic_matrices.specs.Norm.{norm1}
 use Rattle.arithmetic_matrices.specs.Product.{zero_m, dot, add_multiple_m, identity_m, times_m, squared, mul_m}
 use Rattle.arithmetic_matrices.specs.Workspace.{Room, slot, store, member, Only}
 use Rattle.arithmetic_matrices.specs.Kernels.{Squared}
 use Rattle.arithmetic_matrices.proofs.MatrixLaws.{grid_is, at-grid, square_le}
-use Rattle.arithmetic_matrices.proofs.PartLaws.{take_part, take_rest}
+use Rattle.arithmetic_matrices.proofs.PartLaws.{take_part, take_rest, rest_length}
 use Rattle.arithmetic_matrices.proofs.ProductLaws.{length-zero_m, at-tab, length-add_multiple_m, dot_more, product_comm}
 use Rattle.arithmetic_matrices.proofs.Slots.{only_trans, only_more, length-slot, slot_only, only_refl}
 use Rattle.arithmetic_matrices.proofs.States.{held, Held, listed, State, start, step_identity, step_zero, step_accumulate, step_call, state_listed, holds_as, held_at, member_among, step_times, step_copy_in, step_copy, step_mult, Holds}
-use Rattle.lu_factoring.specs.Lu.{lu_outcome}
+use Rattle.lu_factoring.specs.Lu.{LuOutcome, lu_outcome}
 use Rattle.lu_factoring.specs.Pivots.{smallest_pivot}
 use Rattle.lu_factoring.specs.Solve.{stand_in, quotient}
 use Rattle.lu_factoring.specs.Kernels.{divided}
 use Rattle.lu_factoring.proofs.DivisionLaws.{divided_slot, divided_only}
 use Rattle.arithmetic_questions.specs.Result.{done, ◌>>=◌, outcome, exit}
-use Rattle.arithmetic_questions.specs.Answers.{numbered, reported}
+use Rattle.arithmetic_questions.specs.Answers.{Outcome, numbered, reported}
 use Rattle.arithmetic_questions.specs.Kernels.{Replaced}
 use Rattle.arithmetic_questions.specs.Reports.{factored}
-use Rattle.arithmetic_questions.specs.declared.answer.Outcome.{Outcome}
-use Rattle.arithmetic_questions.specs.declared.answer.Outcome.TheVariants.{Done, Refused}
 use Rattle.arithmetic_questions.specs.declared.answer.Refusal.{Refusal}
 use Rattle.arithmetic_questions.specs.declared.answer.Report.{Report}
 use Rattle.arithmetic_questions.proofs.BothLaws.{call_refused}
@@ -42,6 +38,16 @@ use Rattle.functions_definitions.specs.Reports.{lu_report, exponential_report, e
 use Rattle.functions_definitions.proofs.HalvingLaws.{halvings_are, halvings_outcome, halvings_set}
 use Rattle.functions_definitions.specs.Exponential.{coefficient, next_coefficient, power, combination_to, flipped, flip, numerator, denominator, combination, exponential, pade, scaled}
 use Rattle.functions_exponential.specs.Kernels.{next_power, Raised, Summed, PadeQuotient, Approximated, Exponentiated}
+
+-- ---- what the proofs use of a format: it counts as far as the coefficients need, and holds the scale of each number of halvings
+
+pub counts : (f : Format) → 364 ≤ 2 ^ prec f
+counts binary32 = lit≤ tt
+counts binary64 = lit≤ tt
+
+pub scales : (f : Format) → 64 < emax f
+scales binary32 = lit< tt
+scales binary64 = lit< tt
 
 -- ---- one term more
 
@@ -68,11 +74,24 @@ combination_more f n c a k =
     ∙ sym (dot_more f k c (λ m. at n (power f n a m) i j)))
 
 -- the part that `quotient_or_numerator` returns
-pub quotient_part : {count : ℕ} (n : ℕ) (w : List Float) (o : LuOutcome) → count ≡ n * n → Room n w
+quotient_in : {count : ℕ} (n : ℕ) (w : List Float) (o : LuOutcome) → count ≡ n * n → Room n w
     → take count (stand_in o (take (length w - 1280) (drop 1280 w)) (take (length w - 512) (drop 512 w))) ≡ stand_in o (slot n w 5) (slot n w 2)
 unfolding slot
-quotient_part n w Factored e r = rw (e, take_rest) (take_part w 1280 (n * n) (omega (arith, square_le n r.order, r.space)))
-quotient_part n w (Singular k) e r = rw (e, take_rest) (take_part w 512 (n * n) (omega (arith, square_le n r.order, r.space)))
+quotient_in n w (Ok _) e r = rw (e, take_rest) (take_part w 1280 (n * n) (omega (arith, square_le n r.order, r.space)))
+quotient_in n w (Err bad) e r = rw (e, take_rest) (take_part w 512 (n * n) (omega (arith, square_le n r.order, r.space)))
+
+-- over numbers that are seen as floats
+module _ {A : Type 0} (floats : List A → List Float) (w : List A) (length_law : (l : List A) → length (floats l) ≡ length l) (take_law : (k : ℕ) (l : List A) → floats (take k l) ≡ take k (floats l))
+    (drop_law : (k : ℕ) (l : List A) → floats (drop k l) ≡ drop k (floats l)) where
+  seen_rest : (o : ℕ) → floats (take (length w - o) (drop o w)) ≡ take (length (floats w) - o) (drop o (floats w))
+  seen_rest o = take_law _ _ ∙ ap (take (length w - o)) (drop_law o w) ∙ ap (λ (k : ℕ). take (k - o) (drop o (floats w))) (sym (length_law w))
+
+  pub rest_is : (o : ℕ) → length (take (length w - o) (drop o w)) ≡ length w - o
+  rest_is o = sym (length_law _) ∙ ap length (seen_rest o) ∙ rest_length (floats w) o ∙ ap (λ (k : ℕ). k - o) (length_law w)
+
+  pub quotient_part : {count : ℕ} (n : ℕ) (o : LuOutcome) → count ≡ n * n → Room n (floats w)
+      → take count (stand_in o (floats (take (length w - 1280) (drop 1280 w))) (floats (take (length w - 512) (drop 512 w)))) ≡ stand_in o (slot n (floats w) 5) (slot n (floats w) 2)
+  quotient_part {count} n o e r = (λ i. take count (stand_in o (seen_rest 1280 i) (seen_rest 512 i))) ∙ quotient_in n (floats w) o e r
 
 -- ---- the Padé sums, term by term
 
@@ -101,12 +120,12 @@ slot_three n w = refl
 
 -- what stands in for a stand-in
 twice : {A : Type 0} (o : LuOutcome) (q b : A) → stand_in o (stand_in o q b) b ≡ stand_in o q b
-twice Factored q b = refl
-twice (Singular k) q b = refl
+twice (Ok _) q b = refl
+twice (Err bad) q b = refl
 
 pub length-stand_in : {k : ℕ} (o : LuOutcome) (q b : List Float) → length q ≡ k → length b ≡ k → length (stand_in o q b) ≡ k
-length-stand_in Factored q b p r = p
-length-stand_in (Singular k) q b p r = r
+length-stand_in (Ok _) q b p r = p
+length-stand_in (Err bad) q b p r = r
 
 module _ (f : Format) (n : ℕ) (w₀ : List Float) (r : Room n w₀) where
   -- the power after power 0, and after any other
@@ -165,9 +184,9 @@ module _ (f : Format) (n : ℕ) (w₀ : List Float) (r : Room n w₀) where
     only = only_trans H.only S.only;
   }
 
-  pub terms_start : (w : List Float) → State summing w₀ w (listed (sums f n (slot n w₀ 0) 0)) → PadeTerms f n w w (of_bits f (emax f * hid f)) 0
+  pub terms_start : (w : List Float) (c : Float) → c ≡ one → State summing w₀ w (listed (sums f n (slot n w₀ 0) 0)) → PadeTerms f n w w c 0
   unfolding coefficient
-  terms_start w H = record { within = omega arith; room = record { order = r.order; space = H.space }; next = one_bits f; state = sums_begin w H }
+  terms_start w c e H = record { within = omega arith; room = record { order = r.order; space = H.space }; next = e; state = sums_begin w H }
 
   -- ---- the quotient, or the numerator in its place
 
@@ -227,20 +246,20 @@ module _ (f : Format) (n : ℕ) (w₀ : List Float) (r : Room n w₀) where
       e ∙ ap (λ (a : List Float). lu_report f n (denominator f n a)) (held_at 0 n s1 refl)
 
 -- the halvings of the norm are those that were reported
-pub halved_reported : (f : Format) (n s : ℕ) (a : List Float) (o : Outcome) (ρ : Report) → reported o ≡ halvings_report (norm1 f n a) → o ≡ Done s → ρ ≡ exponential_report f n s a → ρ ≡ exp_report f n a
+pub halved_reported : (f : Format) (n s : ℕ) (a : List Float) (o : Outcome) (ρ : Report) → reported o ≡ halvings_report (norm1 f n a) → o ≡ Ok s → ρ ≡ exponential_report f n s a → ρ ≡ exp_report f n a
 unfolding exp_report
 halved_reported f n s a o ρ H eo e = e ∙ ap (λ (t : ℕ). exponential_report f n t a) (halvings_are (norm1 f n a) s (sym (ap reported eo) ∙ H))
 
 -- ---- a matrix in slot 0 that g replaces at the halvings of the norm x
 
 module _ (ss : List ℕ) (n : ℕ) (g : ℕ → List Float) (x : Float) (o : Outcome) (H : reported o ≡ halvings_report x) (w : List Float) where
-  pub halved_none : (y : Refusal) (o' : Outcome) → o ≡ Refused y → reported o' ≡ numbered y → Replaced ss n (halvings_for x >>= λ s. done s (g s)) o' w w
+  pub halved_none : (y : Refusal) (o' : Outcome) → o ≡ Err y → reported o' ≡ numbered y → Replaced ss n (halvings_for x >>= λ s. done s (g s)) o' w w
   unfolding outcome exit
   halved_none y o' e r =
       let (k, i, j, ex, en) = call_refused (halvings_for x >>= λ s. done s (g s)) o y (H ∙ sym (halvings_outcome x g)) e in
       rw ex (record { outcome = r ∙ en; result = refl; only = only_refl (member ss) w })
 
-  pub halved_done : (s : ℕ) (o' : Outcome) (w' : List Float) → o ≡ Done s → reported o' ≡ done s tt → slot n w' 0 ≡ g s → Only (member ss) w w' → Replaced ss n (halvings_for x >>= λ s. done s (g s)) o' w w'
+  pub halved_done : (s : ℕ) (o' : Outcome) (w' : List Float) → o ≡ Ok s → reported o' ≡ done s tt → slot n w' 0 ≡ g s → Only (member ss) w w' → Replaced ss n (halvings_for x >>= λ s. done s (g s)) o' w w'
   unfolding outcome exit
   halved_done s o' w' e h r k = rw (halvings_set x g s (sym H ∙ ap reported e)) (record { outcome = h; result = r; only = k })
 

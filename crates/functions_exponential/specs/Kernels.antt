@@ -3,8 +3,7 @@ use Rattle.std.specs.Prelude.{ℕ, cond, List, [], ◌∷◌, ◌≡◌, eqb, Fl
 use Rattle.std.specs.Float.{Format}
 use Rattle.arithmetic_matrices.specs.Product.{mul_m}
 use Rattle.arithmetic_matrices.specs.Workspace.{slot, member, Only}
-use Rattle.lu_factoring.specs.Lu.{lu_outcome}
-use Rattle.lu_factoring.specs.declared.LuOutcome.{LuOutcome}
+use Rattle.lu_factoring.specs.Lu.{LuOutcome, lu_outcome}
 use Rattle.lu_factoring.specs.Solve.{stand_in, quotient}
 use Rattle.functions_definitions.specs.Exponential.{numerator, denominator, pade, exponential}
 

@@ -1,4 +1,5 @@
 -- What a call of cond_expm answers. Assumes nothing.
+use Rattle.std.specs.Prelude.{Ok, Err}
 use Prim.Native.Nat.{ℕ, ◌*◌, ◌≤◌}
 use native.Mathlib.Omega.{arith}
 use mathlib.Core.Path.{◌≡◌, refl, sym, ap, ◌∙◌}
@@ -7,10 +8,9 @@ use mathlib.Core.List.{List}
 use lib.Dec.{ltb}
 use lib.ListN.{length}
 use lib.IntN.{pos}
-use lib.Ieee.{Float, Format, binary64, emax, hid, div, of_bits, of_int}
+use lib.Ieee.{Float, Format, binary64, div, of_int}
 use Rattle.arithmetic_floats.specs.Float.{one, constant}
 use Rattle.arithmetic_floats.specs.Root.{sqrt_of}
-use Rattle.arithmetic_floats.proofs.Constants.{one_bits}
 use Rattle.arithmetic_floats.proofs.Widths.{root_once}
 use Rattle.arithmetic_matrices.specs.Matrix.{part}
 use Rattle.arithmetic_matrices.specs.Product.{diagonal_m}
@@ -18,13 +18,9 @@ use Rattle.arithmetic_matrices.specs.Norm.{frobenius}
 use Rattle.arithmetic_matrices.specs.Workspace.{Room, store, cleared, Only}
 use Rattle.arithmetic_questions.specs.Result.{Result, refused, done, outcome, exit}
 use Rattle.arithmetic_questions.specs.Questions.{Call, Profile, asked, answer}
-use Rattle.arithmetic_questions.specs.Answers.{numbered, reported, found}
+use Rattle.arithmetic_questions.specs.Answers.{Question, Outcome, numbered, reported, found}
 use Rattle.arithmetic_questions.specs.Outputs.{WorkspaceLeft, Both}
 use Rattle.arithmetic_questions.specs.Reports.{refused_report, report_at}
-use Rattle.arithmetic_questions.specs.declared.answer.Outcome.{Outcome}
-use Rattle.arithmetic_questions.specs.declared.answer.Outcome.TheVariants.{Done, Refused}
-use Rattle.arithmetic_questions.specs.declared.answer.Question.{Question}
-use Rattle.arithmetic_questions.specs.declared.answer.Question.TheVariants.{Passed, No}
 use Rattle.arithmetic_questions.specs.declared.answer.Refusal.{Refusal}
 use Rattle.arithmetic_questions.specs.declared.answer.Report.{Report}
 use Rattle.arithmetic_matrices.proofs.MatrixLaws.{square_le}
@@ -40,9 +36,9 @@ use Rattle.functions_definitions.specs.Reports.{frechet_exp_report, cond_exp_rep
 use Rattle.functions_exponential_derivative.specs.Kernels.{Written, rated}
 use Rattle.functions_definitions.specs.Conditions.{no_condition, Conditioned}
 
--- the entries of the unit direction, as the code has them: v is the order, r its root
-pub unit_number : (f : Format) (n : ℕ) (v r : Float) → n ≤ 16 → v ≡ of_int f (pos n) → r ≡ sqrt_of f v → div f (of_bits f (emax f * hid f)) r ≡ div f one (constant f (sqrt_of binary64 (of_int binary64 (pos n))))
-unit_number f n v r h e k = λ i. div f (one_bits f i) ((k ∙ ap (sqrt_of f) e ∙ sym (root_once f n h)) i)
+-- the entries of the unit direction, as the code has them: u is 1, v the order, r its root
+pub unit_number : (f : Format) (n : ℕ) (u v r : Float) → n ≤ 16 → u ≡ one → v ≡ of_int f (pos n) → r ≡ sqrt_of f v → div f u r ≡ div f one (constant f (sqrt_of binary64 (of_int binary64 (pos n))))
+unit_number f n u v r h t e k = λ i. div f (t i) ((k ∙ ap (sqrt_of f) e ∙ sym (root_once f n h)) i)
 
 -- what was stored in slot 0 is read back from it
 pub unit_read : {k : ℕ} (x : Float) (n : ℕ) (w w1 out : List Float) → Room n w → k ≡ n * n → w1 ≡ store w 0 (diagonal_m n x) → out ≡ part w1 (256 * 0) k → out ≡ diagonal_m n x
@@ -52,21 +48,21 @@ unit_read x n w w1 out r size e f =
 
 -- ---- the answer, from an outcome
 
-pub answered_done : (c z : Condition) (given : Outcome) (s : ℕ) → given ≡ Done s → z ≡ c → Conditioned (rated c (reported given)) (Done s) z
+pub answered_done : (c z : Condition) (given : Outcome) (s : ℕ) → given ≡ Ok s → z ≡ c → Conditioned (rated c (reported given)) (Ok s) z
 unfolding outcome exit
 answered_done c z given s e h = rw e (record { outcome = refl; condition = h })
 
-pub answered_none : (c z : Condition) (given o : Outcome) (y : Refusal) → given ≡ Refused y → reported o ≡ numbered y → z ≡ no_condition → Conditioned (rated c (reported given)) o z
+pub answered_none : (c z : Condition) (given o : Outcome) (y : Refusal) → given ≡ Err y → reported o ≡ numbered y → z ≡ no_condition → Conditioned (rated c (reported given)) o z
 unfolding outcome exit
 answered_none c z given o y e k h =
     let (i, j, l, n) = as_refused y in
     rw (e, n) (record { outcome = k ∙ n; condition = h })
 
-pub reports_done : (v : Report) (given : Outcome) (s : ℕ) → given ≡ Done s → v ≡ report_at (reported given) v
+pub reports_done : (v : Report) (given : Outcome) (s : ℕ) → given ≡ Ok s → v ≡ report_at (reported given) v
 unfolding report_at exit
 reports_done v given s e = rw e refl
 
-pub reports_none : (v ρ : Report) (given : Outcome) (y : Refusal) → given ≡ Refused y → ρ ≡ refused_report → ρ ≡ report_at (reported given) v
+pub reports_none : (v ρ : Report) (given : Outcome) (y : Refusal) → given ≡ Err y → ρ ≡ refused_report → ρ ≡ report_at (reported given) v
 unfolding report_at exit
 reports_none v ρ given y e k =
     let (i, j, l, n) = as_refused y in
@@ -114,13 +110,13 @@ module _ (f : Format) (n : ℕ) (small : n ≤ 16) (a w w1 w2 e x x' d d' : List
 
 module _ (P : Profile) (c : Call) (q : Question) (h : found q ≡ asked P c) (x : Result Condition) where
   -- a question refuses
-  pub condition_refused : (o : Outcome) (z : Condition) (y : Refusal) → q ≡ No y → reported o ≡ numbered y → z ≡ no_condition → Conditioned (answer P c x) o z
+  pub condition_refused : (o : Outcome) (z : Condition) (y : Refusal) → q ≡ Err y → reported o ≡ numbered y → z ≡ no_condition → Conditioned (answer P c x) o z
   condition_refused o z y t k e = record { outcome = k ∙ sym (outcome_no P c x q h y t); condition = e ∙ sym (exit_no P c x q h y t (λ v. v) no_condition) }
 
   -- none does
-  pub condition_passed : (o : Outcome) (z : Condition) → q ≡ Passed → Conditioned x o z → Conditioned (answer P c x) o z
+  pub condition_passed : (o : Outcome) (z : Condition) → q ≡ Ok tt → Conditioned x o z → Conditioned (answer P c x) o z
   condition_passed o z t C = rw (answer_passed P c x q h t) C
 
-  pub workspace_passed : (clears : Bool) (w w1 w2 : List Float) → q ≡ Passed → Late x → 8192 ≤ length w → Only (λ s. ltb s 32) w w1 → w2 ≡ cond clears (cleared w1) w1
+  pub workspace_passed : (clears : Bool) (w w1 w2 : List Float) → q ≡ Ok tt → Late x → 8192 ≤ length w → Only (λ s. ltb s 32) w w1 → w2 ≡ cond clears (cleared w1) w1
       → WorkspaceLeft clears (answer P c x) w w2
   workspace_passed clears w w1 w2 t l room only v = rw (answer_passed P c x q h t) (late_where clears x w w1 w2 l v (cleared_only w w1 room only))

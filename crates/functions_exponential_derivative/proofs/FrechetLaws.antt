@@ -1,4 +1,5 @@
 -- What a call of frechet_expm leaves. Assumes nothing.
+use Rattle.std.specs.Prelude.{Ok, Err}
 use Prim.Native.Nat.{ℕ, ◌+◌, ◌*◌, ◌<◌, ◌≤◌, ◌^◌}
 use native.Mathlib.Nat.{add-mul}
 use mathlib.Core.Path.{◌≡◌, refl, sym, ap, ◌∙◌}
@@ -11,14 +12,10 @@ use lib.Ieee.{Float, Format, prec}
 use Rattle.arithmetic_matrices.specs.Workspace.{slot, store, cleared, Only, Room}
 use Rattle.arithmetic_questions.specs.Result.{Result, refused, done, outcome, exit, ◌>>=◌}
 use Rattle.arithmetic_questions.specs.Questions.{Call, Profile, asked, answer}
-use Rattle.arithmetic_questions.specs.Answers.{reported, found}
+use Rattle.arithmetic_questions.specs.Answers.{Question, Outcome, reported, found}
 use Rattle.arithmetic_questions.specs.Outputs.{Both, TwoOutputsWith}
 use Rattle.arithmetic_questions.specs.Kernels.{Replaced}
 use Rattle.arithmetic_questions.specs.Reports.{report_at}
-use Rattle.arithmetic_questions.specs.declared.answer.Outcome.{Outcome}
-use Rattle.arithmetic_questions.specs.declared.answer.Outcome.TheVariants.{Done, Refused}
-use Rattle.arithmetic_questions.specs.declared.answer.Question.{Question}
-use Rattle.arithmetic_questions.specs.declared.answer.Question.TheVariants.{Passed}
 use Rattle.arithmetic_questions.specs.declared.answer.Refusal.{Refusal}
 use Rattle.arithmetic_questions.specs.declared.answer.Report.{Report}
 use Rattle.arithmetic_matrices.proofs.MatrixLaws.{square_le, length-grid, row_end}
@@ -55,11 +52,11 @@ block_rows n i small h = (row_end i n (n + n) h, omega (arith, add-mul n n (n + 
 
 -- ---- the ends of write_quarters
 
-pub quartered_done : (n : ℕ) (given : Outcome) (w first first' second second' : List Float) (s : ℕ) → given ≡ Done s → first' ≡ quarter n 0 (slot (n + n) w 0) → second' ≡ quarter n n (slot (n + n) w 0)
+pub quartered_done : (n : ℕ) (given : Outcome) (w first first' second second' : List Float) (s : ℕ) → given ≡ Ok s → first' ≡ quarter n 0 (slot (n + n) w 0) → second' ≡ quarter n n (slot (n + n) w 0)
     → Quartered n given given w first first' second second'
 quartered_done n given w first first' second second' s e p q = record { outcome = refl; value = p ∙ sym (exit_done _ first given s e); derivative = q ∙ sym (exit_done _ second given s e) }
 
-pub quartered_none : (n : ℕ) (given : Outcome) (w first second : List Float) (y : Refusal) → given ≡ Refused y → Quartered n given given w first first second second
+pub quartered_none : (n : ℕ) (given : Outcome) (w first second : List Float) (y : Refusal) → given ≡ Err y → Quartered n given given w first first second second
 quartered_none n given w first second y e = record { outcome = refl; value = sym (exit_refused _ first given y e); derivative = sym (exit_refused _ second given y e) }
 
 -- ---- all the steps
@@ -107,7 +104,7 @@ frechet_reported f n a e w w1 given o ρ ρ' r e1 h k same p q =
 
 module _ (p : Profile) (c : Call) (q : Question) (h : found q ≡ asked p c) (clears : Bool) (o : Outcome) (x : Result Both) (first second w : List Float) where
   -- no question refuses: the outputs are written, and the workspace is cleared where `clears` is true
-  pub two_written : (first' second' w1 w2 : List Float) → q ≡ Passed → Late x → 8192 ≤ length w → Written x o first first' second second' w w1 → w2 ≡ cond clears (cleared w1) w1
+  pub two_written : (first' second' w1 w2 : List Float) → q ≡ Ok tt → Late x → 8192 ≤ length w → Written x o first first' second second' w w1 → w2 ≡ cond clears (cleared w1) w1
       → TwoOutputsWith clears (answer p c x) o first first' second second' w w2
   two_written first' second' w1 w2 e l room W v =
       rw (answer_passed p c x q h e) (record {

@@ -4,9 +4,8 @@ use Rattle.arithmetic_matrices.specs.Matrix.{at}
 use Rattle.arithmetic_matrices.specs.Workspace.{slot, Only}
 use Rattle.functions_definitions.specs.Exponential.{quarter}
 use Rattle.arithmetic_questions.specs.Result.{Result, exit, outcome as outcome_of, refused, done}
-use Rattle.arithmetic_questions.specs.Answers.{reported}
+use Rattle.arithmetic_questions.specs.Answers.{Outcome, reported}
 use Rattle.arithmetic_questions.specs.Outputs.{Both}
-use Rattle.arithmetic_questions.specs.declared.answer.Outcome.{Outcome}
 use Rattle.functions_definitions.specs.Derivatives.{Condition}
 
 -- row i of `quarter`

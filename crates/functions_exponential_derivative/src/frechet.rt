@@ -1,6 +1,5 @@
 // The derivative of the exponential at A in the direction E, from the exponential of the block [A E; 0 A] of order 2 n.
 ghost use Rattle.std.specs.Prelude.{◌≡◌, ◌+◌, ◌*◌, ◌<◌, ◌≤◌, length};
-ghost use Rattle.std.specs.Float.{binary64};
 ghost use Rattle.arithmetic_matrices.specs.Kernels.{with_row};
 ghost use Rattle.arithmetic_matrices.specs.Workspace.{Room, slot, store};
 ghost use Rattle.arithmetic_questions.specs.Outputs.{TwoOutputsIn, TwoOutputsWith};
@@ -12,17 +11,18 @@ ghost use Rattle.functions_definitions.specs.Derivatives.{frechet_exp_m};
 ghost use Rattle.functions_definitions.specs.Calls.{frechet_expm};
 ghost use Rattle.functions_definitions.specs.Reports.{frechet_exp_report};
 
+use arithmetic_floats::real::Real;
 use arithmetic_matrices::matrix::place;
 use arithmetic_matrices::workspace::{clear_where, zero};
-use arithmetic_questions::answer::{Answer, Outcome, Question, refused};
+use arithmetic_questions::answer::{Answer, refused};
 use arithmetic_questions::question::ask_frechet_expm;
 use functions_exponential::expm::expm_in;
 
 // Slot 0 becomes the block [A E; 0 A].
-pub fn fill_block(w: &mut [f64], n: usize, a: &[f64], e: &[f64])
-    requires room { Room (n + n) w.old }
+pub fn fill_block<T: Real>(w: &mut [T], n: usize, a: &[T], e: &[T])
+    requires room { Room (n + n) (T.floats w.old) }
     requires n_bound { (n ≤ 8) × (length a.now ≡ n * n) × (length e.now ≡ n * n) }
-    ensures { w.new ≡ store w.old 0 (block n a.now e.now) }
+    ensures { T.floats w.new ≡ store (T.floats w.old) 0 (block n (T.floats a.now) (T.floats e.now)) }
 {
     let step = n + n;
     zero(w, 0, step);
@@ -32,34 +32,30 @@ pub fn fill_block(w: &mut [f64], n: usize, a: &[f64], e: &[f64])
 }
 
 // Row i of the quarter of b that starts at column c becomes row i of out. b is of order 2 n.
-fn quarter_row(b: &[f64], n: usize, c: usize, i: usize, out: &mut [f64])
+fn quarter_row<T: Real>(b: &[T], n: usize, c: usize, i: usize, out: &mut [T])
     requires { (i < n) × (n ≤ 8) × (c ≤ n) × (length b.now ≡ (n + n) * (n + n)) × (length out.old ≡ n * n) }
-    ensures { out.new ≡ with_row n i (quarter_row n c b.now i) out.old }
+    ensures { T.floats out.new ≡ with_row n i (quarter_row n c (T.floats b.now) i) (T.floats out.old) }
 {
-    let mut j = 0;
-    while j < n {
+    for j in 0..n {
         out[i * n + j] = b[i * (n + n) + (c + j)];
-        j += 1;
     }
 }
 
 // The quarter of b that starts at row 0 and column c is copied to out. b is of order 2 n.
-pub fn copy_quarter(b: &[f64], n: usize, c: usize, out: &mut [f64])
+pub fn copy_quarter<T: Real>(b: &[T], n: usize, c: usize, out: &mut [T])
     requires { (n ≤ 8) × (c ≤ n) × (length b.now ≡ (n + n) * (n + n)) × (length out.old ≡ n * n) }
-    ensures { out.new ≡ quarter n c b.now }
+    ensures { T.floats out.new ≡ quarter n c (T.floats b.now) }
 {
-    let mut i = 0;
-    while i < n {
+    for i in 0..n {
         quarter_row(b, n, c, i, out);
-        i += 1;
     }
 }
 
 // The upper quarters of the matrix of order 2 n in slot 0 are copied to first and second.
-fn copy_quarters(w: &[f64], n: usize, first: &mut [f64], second: &mut [f64])
+fn copy_quarters<T: Real>(w: &[T], n: usize, first: &mut [T], second: &mut [T])
     requires { (n ≤ 8) × (8192 ≤ length w.now) × (length first.old ≡ n * n) × (length second.old ≡ n * n) }
-    ensures first_after { first.new ≡ quarter n 0 (slot (n + n) w.now 0) }
-    ensures second_after { second.new ≡ quarter n n (slot (n + n) w.now 0) }
+    ensures first_after { T.floats first.new ≡ quarter n 0 (slot (n + n) (T.floats w.now) 0) }
+    ensures second_after { T.floats second.new ≡ quarter n n (slot (n + n) (T.floats w.now) 0) }
 {
     let end = (n + n) * (n + n);
     let b = &w[..end];
@@ -68,40 +64,40 @@ fn copy_quarters(w: &[f64], n: usize, first: &mut [f64], second: &mut [f64])
 }
 
 // The upper quarters of the matrix of order 2 n in slot 0 are copied to first and second where the answer is done. The answer is handed on.
-fn write_quarters(
+fn write_quarters<T: Real>(
     answer: Answer,
-    w: &[f64],
+    w: &[T],
     n: usize,
-    first: &mut [f64],
-    second: &mut [f64],
+    first: &mut [T],
+    second: &mut [T],
 ) -> Answer
     requires { (n ≤ 8) × (8192 ≤ length w.now) × (length first.old ≡ n * n) × (length second.old ≡ n * n) }
-    ensures quartered { Quartered n answer.outcome result.outcome w.now first.old first.new second.old second.new }
+    ensures quartered { Quartered n answer.outcome result.outcome (T.floats w.now) (T.floats first.old) (T.floats first.new) (T.floats second.old) (T.floats second.new) }
     ensures report_value { result.report ≡ answer.report }
 {
     let outcome = answer.outcome;
     match outcome {
-        Outcome::Done { halvings: _ } => {
+        Ok(_) => {
             copy_quarters(w, n, first, second);
             answer
         }
-        Outcome::Refused(_) => answer,
+        Err(_) => answer,
     }
 }
 
 // The exponential of A and its derivative in the direction E are written to first and second.
-pub fn frechet_expm_in(
+pub fn frechet_expm_in<T: Real>(
     n: usize,
-    a: &[f64],
-    e: &[f64],
-    first: &mut [f64],
-    second: &mut [f64],
-    w: &mut [f64],
+    a: &[T],
+    e: &[T],
+    first: &mut [T],
+    second: &mut [T],
+    w: &mut [T],
 ) -> Answer
-    requires room { Room (n + n) w.old }
+    requires room { Room (n + n) (T.floats w.old) }
     requires n_bound { (n ≤ 8) × (length a.now ≡ n * n) × (length e.now ≡ n * n) × (length first.old ≡ n * n) × (length second.old ≡ n * n) }
-    ensures written { Written (frechet_exp_m binary64 n a.now e.now) result.outcome first.old first.new second.old second.new w.old w.new }
-    ensures report_value { result.report ≡ report_at (frechet_exp_m binary64 n a.now e.now) (frechet_exp_report binary64 n a.now e.now) }
+    ensures written { Written (frechet_exp_m T.format n (T.floats a.now) (T.floats e.now)) result.outcome (T.floats first.old) (T.floats first.new) (T.floats second.old) (T.floats second.new) (T.floats w.old) (T.floats w.new) }
+    ensures report_value { result.report ≡ report_at (frechet_exp_m T.format n (T.floats a.now) (T.floats e.now)) (frechet_exp_report T.format n (T.floats a.now) (T.floats e.now)) }
 {
     fill_block(w, n, a, e);
     let answer = expm_in(w, n + n);
@@ -109,21 +105,21 @@ pub fn frechet_expm_in(
 }
 
 // `frechet_expm`, where the workspace is cleared only if `clears` is true.
-pub fn frechet_expm_with(
+pub fn frechet_expm_with<T: Real>(
     rows: usize,
     columns: usize,
-    a: &[f64],
+    a: &[T],
     height: usize,
     width: usize,
-    e: &[f64],
-    first: &mut [f64],
-    second: &mut [f64],
-    w: &mut [f64],
+    e: &[T],
+    first: &mut [T],
+    second: &mut [T],
+    w: &mut [T],
     clears: bool,
 ) -> Answer
-    ensures two_outputs_with { TwoOutputsWith clears (frechet_expm binary64 rows columns a.now height width e.now (length first.old) (length second.old) (length w.old)) result.outcome first.old first.new second.old second.new w.old w.new }
-    ensures first_alone { FirstAlone binary64 rows result.outcome a.now e.now first.new }
-    ensures report_value { result.report ≡ report_at (frechet_expm binary64 rows columns a.now height width e.now (length first.old) (length second.old) (length w.old)) (frechet_exp_report binary64 rows a.now e.now) }
+    ensures two_outputs_with { TwoOutputsWith clears (frechet_expm T.format rows columns (T.floats a.now) height width (T.floats e.now) (length first.old) (length second.old) (length w.old)) result.outcome (T.floats first.old) (T.floats first.new) (T.floats second.old) (T.floats second.new) (T.floats w.old) (T.floats w.new) }
+    ensures first_alone { FirstAlone T.format rows result.outcome (T.floats a.now) (T.floats e.now) (T.floats first.new) }
+    ensures report_value { result.report ≡ report_at (frechet_expm T.format rows columns (T.floats a.now) height width (T.floats e.now) (length first.old) (length second.old) (length w.old)) (frechet_exp_report T.format rows (T.floats a.now) (T.floats e.now)) }
 {
     match ask_frechet_expm(
         rows,
@@ -136,8 +132,8 @@ pub fn frechet_expm_with(
         second.len(),
         w.len(),
     ) {
-        Question::No(why) => refused(why),
-        Question::Passed => {
+        Err(why) => refused(why),
+        Ok(()) => {
             let answer = frechet_expm_in(rows, a, e, first, second, w);
             clear_where(w, clears);
             answer
@@ -148,20 +144,20 @@ pub fn frechet_expm_with(
 // The exponential of A and its derivative in the direction E, of height by width, are written to first and second. The first clause says, for all input, the
 // outcome, both outputs and the workspace, by `frechet_expm` of specs/Calls.antt. The second is demand 3: specs/Frechet.antt says what it means, and
 // proofs/FirstOutput.antt proves it. The third is the report.
-pub fn frechet_expm(
+pub fn frechet_expm<T: Real>(
     rows: usize,
     columns: usize,
-    a: &[f64],
+    a: &[T],
     height: usize,
     width: usize,
-    e: &[f64],
-    first: &mut [f64],
-    second: &mut [f64],
-    w: &mut [f64],
+    e: &[T],
+    first: &mut [T],
+    second: &mut [T],
+    w: &mut [T],
 ) -> Answer
-    ensures two_outputs_in { TwoOutputsIn (frechet_expm binary64 rows columns a.now height width e.now (length first.old) (length second.old) (length w.old)) result.outcome first.old first.new second.old second.new w.old w.new }
-    ensures first_alone { FirstAlone binary64 rows result.outcome a.now e.now first.new }
-    ensures report_value { result.report ≡ report_at (frechet_expm binary64 rows columns a.now height width e.now (length first.old) (length second.old) (length w.old)) (frechet_exp_report binary64 rows a.now e.now) }
+    ensures two_outputs_in { TwoOutputsIn (frechet_expm T.format rows columns (T.floats a.now) height width (T.floats e.now) (length first.old) (length second.old) (length w.old)) result.outcome (T.floats first.old) (T.floats first.new) (T.floats second.old) (T.floats second.new) (T.floats w.old) (T.floats w.new) }
+    ensures first_alone { FirstAlone T.format rows result.outcome (T.floats a.now) (T.floats e.now) (T.floats first.new) }
+    ensures report_value { result.report ≡ report_at (frechet_expm T.format rows columns (T.floats a.now) height width (T.floats e.now) (length first.old) (length second.old) (length w.old)) (frechet_exp_report T.format rows (T.floats a.now) (T.floats e.now)) }
 {
     frechet_expm_with(rows, columns, a, height, width, e, first, second, w, true)
 }

@@ -1,4 +1,5 @@
 -- Laws of the questions that kron and kron_sum ask. Assumes nothing.
+use Rattle.std.specs.Prelude.{Ok}
 use Prim.Native.Nat.{ℕ, ◌*◌, ◌≤◌}
 use mathlib.Core.Path.{◌≡◌, refl, ◌∙◌}
 use mathlib.Core.List.{List, [], ◌∷◌, ◌++◌}
@@ -8,9 +9,7 @@ use lib.Ieee.{Float}
 use borrow.Author.Tests.{eqb-true}
 use Rattle.arithmetic_questions.specs.Result.{Found, ◌>>=◌, ask, first_no}
 use Rattle.arithmetic_questions.specs.Questions.{Call, binary, no_room, at_most, exactly, shape_questions, number_questions, asked, of_kron, of_kron_sum}
-use Rattle.arithmetic_questions.specs.Answers.{found}
-use Rattle.arithmetic_questions.specs.declared.answer.Question.{Question}
-use Rattle.arithmetic_questions.specs.declared.answer.Question.TheVariants.{Passed}
+use Rattle.arithmetic_questions.specs.Answers.{Question, found}
 use Rattle.arithmetic_questions.proofs.QuestionLaws.{Yes, Each, each_parts, told, all_yes, ask_yes, at_most_yes, exactly_yes}
 
 -- The sizes that both functions accept.
@@ -74,7 +73,7 @@ module _ (m n : ℕ) (a : List Float) (p q : ℕ) (b : List Float) (out : ℕ) w
         output = exactly_yes ((m * p) * (n * q)) out lengths.1.1.0;
       }
 
-  module _ (r : Question) (e : r ≡ Passed) where
+  module _ (r : Question) (e : r ≡ Ok tt) where
     pub kron_fitting : found r ≡ asked of_kron call → Fitting m n a p q b out
     kron_fitting h = fitting (all_yes (told r (h ∙ asked_kron)) e)
 

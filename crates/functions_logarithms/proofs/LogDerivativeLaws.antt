@@ -1,4 +1,5 @@
 -- Laws of the difference quotient of two logarithms in a workspace. Assumes nothing.
+use Rattle.std.specs.Prelude.{Ok, Err}
 use Prim.Native.Nat.{ℕ}
 use mathlib.Core.Path.{◌≡◌, refl, sym, ap, ◌∙◌}
 use mathlib.Core.List.{List, [], ◌∷◌}
@@ -6,11 +7,9 @@ use lib.Ieee.{Float, Format}
 use Rattle.arithmetic_matrices.specs.Product.{add_multiple_m, difference_quotient_m}
 use Rattle.arithmetic_matrices.specs.Workspace.{Room, slot, store, member, Only}
 use Rattle.arithmetic_questions.specs.Result.{done, ◌>>=◌, outcome, exit}
-use Rattle.arithmetic_questions.specs.Answers.{numbered, reported}
+use Rattle.arithmetic_questions.specs.Answers.{Outcome, numbered, reported}
 use Rattle.arithmetic_questions.specs.Kernels.{Replaced, ReplacedBoth}
 use Rattle.arithmetic_questions.specs.Reports.{beside, report_at}
-use Rattle.arithmetic_questions.specs.declared.answer.Outcome.{Outcome}
-use Rattle.arithmetic_questions.specs.declared.answer.Outcome.TheVariants.{Done, Refused}
 use Rattle.arithmetic_questions.specs.declared.answer.Refusal.{Refusal}
 use Rattle.arithmetic_questions.specs.declared.answer.Report.{Report}
 use Rattle.arithmetic_questions.proofs.BothLaws.{call_done, both_refused, both_follows}
@@ -53,7 +52,7 @@ module _ (f : Format) (n : ℕ) (w₀ : List Float) (r : Room n w₀) where
         let s4 = step_call used s3 R.only (member_among (member moved) used refl) in
         (held_at 0 n s3 refl ∙ ap (λ (c : Float). add_multiple_m f n c (slot n w₀ 4) (slot n w₀ 5)) eh, held_at 6 n s4 refl, s4.only)
 
-    pub second_done : (s : ℕ) (w5 : List Float) → o ≡ Done s → QuotientPlaced f n w4 w5 → ReplacedBoth moved n (second_logarithm f n (slot n w₀ 5) (slot n w₀ 4) (slot n w₀ 0)) (Done 0) w₀ w5
+    pub second_done : (s : ℕ) (w5 : List Float) → o ≡ Ok s → QuotientPlaced f n w4 w5 → ReplacedBoth moved n (second_logarithm f n (slot n w₀ 5) (slot n w₀ 4) (slot n w₀ 0)) (Ok 0) w₀ w5
     unfolding second_logarithm ◌>>=◌ outcome exit
     second_done s w5 eo P =
         let x : logarithm f n (add_multiple_m f n (log_step f) (slot n w₀ 4) (slot n w₀ 5)) ≡ done s (slot n w4 0) =
@@ -67,14 +66,14 @@ module _ (f : Format) (n : ℕ) (w₀ : List Float) (r : Room n w₀) where
         })
 
     -- what it reports is the logarithm's
-    pub second_reported : (s : ℕ) (ρ : Report) (w5 : List Float) → o ≡ Done s → QuotientPlaced f n w4 w5 → ρ ≡ report_at (logarithm f n (slot n w3 0)) (log_report f n (slot n w3 0))
+    pub second_reported : (s : ℕ) (ρ : Report) (w5 : List Float) → o ≡ Ok s → QuotientPlaced f n w4 w5 → ρ ≡ report_at (logarithm f n (slot n w3 0)) (log_report f n (slot n w3 0))
         → ρ ≡ report_at (second_logarithm f n (slot n w₀ 5) (slot n w₀ 4) (slot n w₀ 0)) (log_report f n (add_multiple_m f n (log_step f) (slot n w₀ 4) (slot n w₀ 5)))
     second_reported s ρ w5 eo P e =
         report_of_lem (logarithm f n (slot n w3 0)) (log_report f n (slot n w3 0)) ρ o s eo R.outcome e
         ∙ ap (log_report f n) shifted.0
         ∙ report_done (second_logarithm f n (slot n w₀ 5) (slot n w₀ 4) (slot n w₀ 0)) (log_report f n (add_multiple_m f n (log_step f) (slot n w₀ 4) (slot n w₀ 5))) 0 (second_done s w5 eo P).outcome
 
-    pub second_refused : (y : Refusal) (q : Outcome) → o ≡ Refused y → reported q ≡ numbered y → ReplacedBoth moved n (second_logarithm f n (slot n w₀ 5) (slot n w₀ 4) (slot n w₀ 0)) q w₀ w4
+    pub second_refused : (y : Refusal) (q : Outcome) → o ≡ Err y → reported q ≡ numbered y → ReplacedBoth moved n (second_logarithm f n (slot n w₀ 5) (slot n w₀ 4) (slot n w₀ 0)) q w₀ w4
     unfolding second_logarithm
     second_refused y q eo h =
         both_refused (logarithm f n (add_multiple_m f n (log_step f) (slot n w₀ 4) (slot n w₀ 5))) _ moved n o q y w₀ w4 (R.outcome ∙ ap (λ (a : List Float). outcome (logarithm f n a)) shifted.0) eo h shifted.2
@@ -88,7 +87,7 @@ module _ (f : Format) (n : ℕ) (w₀ : List Float) (r : Room n w₀) where
         let s2 = step_call used s1 R.only (member_among (member moved) used refl) in
         (held_at 0 n s1 refl, held_at 4 n s2 refl, held_at 5 n s2 refl, s2.only)
 
-    pub frechet_follows : (s : ℕ) (p : Outcome) (w3 : List Float) → o ≡ Done s → ReplacedBoth moved n (second_logarithm f n (slot n w2 5) (slot n w2 4) (slot n w2 0)) p w2 w3
+    pub frechet_follows : (s : ℕ) (p : Outcome) (w3 : List Float) → o ≡ Ok s → ReplacedBoth moved n (second_logarithm f n (slot n w2 5) (slot n w2 4) (slot n w2 0)) p w2 w3
         → ReplacedBoth moved n (frechet_log_m f n (slot n w₀ 0) (slot n w₀ 4)) p w₀ w3
     unfolding frechet_log_m second_logarithm
     frechet_follows s p w3 eo S =
@@ -97,7 +96,7 @@ module _ (f : Format) (n : ℕ) (w₀ : List Float) (r : Room n w₀) where
         both_follows (logarithm f n (slot n w₀ 0)) (second_logarithm f n (slot n w₀ 0) (slot n w₀ 4)) (slot n w2 0) s n moved p w₀ w2 w3 x first.3 S'
 
     -- what both logarithms report, each by its contract, and then joined
-    pub frechet_reported : (s : ℕ) (p : Outcome) (w3 : List Float) (ρ₁ ρ₂ ρ ρ' : Report) → o ≡ Done s → ReplacedBoth moved n (second_logarithm f n (slot n w2 5) (slot n w2 4) (slot n w2 0)) p w2 w3
+    pub frechet_reported : (s : ℕ) (p : Outcome) (w3 : List Float) (ρ₁ ρ₂ ρ ρ' : Report) → o ≡ Ok s → ReplacedBoth moved n (second_logarithm f n (slot n w2 5) (slot n w2 4) (slot n w2 0)) p w2 w3
         → ρ₁ ≡ report_at (logarithm f n (slot n w1 0)) (log_report f n (slot n w1 0))
         → ρ₂ ≡ report_at (second_logarithm f n (slot n w2 5) (slot n w2 4) (slot n w2 0)) (log_report f n (add_multiple_m f n (log_step f) (slot n w2 4) (slot n w2 5))) → ρ ≡ beside ρ₁ ρ₂
         → ρ' ≡ report_at (reported p) ρ → ρ' ≡ report_at (frechet_log_m f n (slot n w₀ 0) (slot n w₀ 4)) (frechet_log_report f n (slot n w₀ 0) (slot n w₀ 4))
@@ -108,7 +107,7 @@ module _ (f : Format) (n : ℕ) (w₀ : List Float) (r : Room n w₀) where
         let b : ρ₂ ≡ report_at x (log_report f n (add_multiple_m f n (log_step f) (slot n w₀ 4) (slot n w₀ 0))) = e₂ ∙ (λ i. report_at x (log_report f n (add_multiple_m f n (log_step f) (first.1 i) (first.2 i)))) in
         report_joined (frechet_log_m f n (slot n w₀ 0) (slot n w₀ 4)) x (log_report f n (slot n w₀ 0)) (log_report f n (add_multiple_m f n (log_step f) (slot n w₀ 4) (slot n w₀ 0))) ρ₁ ρ₂ ρ ρ' p S.outcome (frechet_follows s p w3 eo S).outcome a b e e'
 
-    pub frechet_refused : (y : Refusal) (q : Outcome) → o ≡ Refused y → reported q ≡ numbered y → ReplacedBoth moved n (frechet_log_m f n (slot n w₀ 0) (slot n w₀ 4)) q w₀ w2
+    pub frechet_refused : (y : Refusal) (q : Outcome) → o ≡ Err y → reported q ≡ numbered y → ReplacedBoth moved n (frechet_log_m f n (slot n w₀ 0) (slot n w₀ 4)) q w₀ w2
     unfolding frechet_log_m
     frechet_refused y q eo h =
         both_refused (logarithm f n (slot n w₀ 0)) _ moved n o q y w₀ w2 (R.outcome ∙ ap (λ (a : List Float). outcome (logarithm f n a)) first.0) eo h first.3

@@ -1,4 +1,5 @@
 -- Laws of the logarithm in a workspace: the roots, the series, and both. Assumes nothing.
+use Rattle.std.specs.Prelude.{Ok, Some, None}
 use Prim.Native.Nat.{ℕ, suc, ◌+◌, ◌*◌, ◌≤◌, ◌<◌}
 use native.Mathlib.Omega.{arith}
 use native.Mathlib.Numerals.{add-one}
@@ -11,11 +12,9 @@ use Rattle.arithmetic_matrices.specs.Product.{mul_m, times_m, add_m, zero_m, min
 use Rattle.arithmetic_matrices.specs.Norm.{frobenius}
 use Rattle.arithmetic_matrices.specs.Workspace.{Room, slot, store, member, Only}
 use Rattle.arithmetic_questions.specs.Result.{Result, done, refused, ◌>>=◌, outcome, exit}
-use Rattle.arithmetic_questions.specs.Answers.{numbered, reported}
+use Rattle.arithmetic_questions.specs.Answers.{Outcome, numbered, reported}
 use Rattle.arithmetic_questions.specs.Kernels.{Replaced}
 use Rattle.arithmetic_questions.specs.Reports.{nothing, iterated, beside}
-use Rattle.arithmetic_questions.specs.declared.answer.Outcome.{Outcome}
-use Rattle.arithmetic_questions.specs.declared.answer.Outcome.TheVariants as outcomes
 use Rattle.arithmetic_questions.specs.declared.answer.Report.{Report}
 use Rattle.arithmetic_questions.specs.declared.answer.Refusal.TheVariants.{NotConverged}
 use Rattle.arithmetic_questions.proofs.ReportLaws.{same_steps, beside_nothing}
@@ -28,13 +27,11 @@ use Rattle.functions_definitions.specs.Roots.{newton_root}
 use Rattle.functions_definitions.specs.Logarithm.{is_far, root_limit, Rooted, rooted, rooting_step, rooting, further_terms, Series, series_step, series_coefficient, series, near_logarithm, logarithm}
 use Rattle.functions_definitions.specs.Reports.{followed, passes_report, newton_report, rooting_report, roots_report, series_report, log_report}
 use Rattle.functions_roots.specs.Kernels.{as_step, tested, answered, OnePass, Passes}
-use Rattle.functions_logarithms.specs.Kernels.{ReportedNewton, rooted_as, as_rooting, RootingPass, as_taken, RootsTaken, series_in, TermsAdded, SeriesSummed, LogarithmNear}
+use Rattle.functions_logarithms.specs.Kernels.{ReportedNewton, rooted_as, as_rooting, RootingPass, RootsTaken, series_in, TermsAdded, SeriesSummed, LogarithmNear}
 use Rattle.functions_roots.specs.declared.pass.Pass.{Pass}
 use Rattle.functions_roots.specs.declared.pass.Passed.{Passed}
 use Rattle.functions_roots.specs.declared.pass.Pass.TheVariants.{Running, Stopped, Failed}
-use Rattle.functions_logarithms.specs.declared.logarithm.Roots.{Roots}
 use Rattle.functions_logarithms.specs.declared.logarithm.TakenRoots.{TakenRoots}
-use Rattle.functions_logarithms.specs.declared.logarithm.Roots.TheVariants.{Taken, Refused}
 use Rattle.functions_definitions.proofs.IterateLaws.{goes_on, stops, fails, runs_out}
 use Rattle.functions_definitions.proofs.GatheredLaws.{reporting_more, reporting_stops, reporting_out}
 use Rattle.functions_roots.proofs.PassLaws.{step_tested, answers_ended, fails_ended, failed_reports}
@@ -126,11 +123,6 @@ pub rooting_start : {f : Format} {n : ℕ} {w₀ : List Float} {ρ : Report} →
 unfolding rooting after gathered
 rooting_start {w₀ = w₀} e = record { within = omega arith; state = refl; few = omega (arith, same_steps e); report = e; only = only_refl (member used) w₀ }
 
--- false of a refusal
-abbrev IsTaken : Roots → Type 0
-IsTaken (Taken k) = Unit {0}
-IsTaken Refused = ⊥
-
 module _ {f : Format} {n : ℕ} {w₀ w : List Float} {ρ : Report} {k : ℕ} (H : Rooting f n w₀ w ρ k) where
   module _ {w' : List Float} {p : Passed} {ρ' : Report} (h : k < root_limit) (P : RootingPass f n p w w') (B : ρ' ≡ beside ρ p.report) where
     told : (q : Pass) → p.pass ≡ q → rooting_step f n (rooted_as (slot n w 0) k) ≡ as_rooting q (slot n w' 0) k
@@ -151,7 +143,7 @@ module _ {f : Format} {n : ℕ} {w₀ w : List Float} {ρ : Report} {k : ℕ} (H
       only = changed;
     }
 
-    pub rooting_stops : p.pass ≡ Stopped → RootsTaken f n (record { roots = Taken k; report = ρ' }) w₀ w'
+    pub rooting_stops : p.pass ≡ Stopped → RootsTaken f n (Some (record { count = k; report = ρ' })) w₀ w'
     unfolding rooting
     rooting_stops e =
         let a = slot n w₀ 0 in
@@ -160,32 +152,34 @@ module _ {f : Format} {n : ℕ} {w₀ w : List Float} {ρ : Report} {k : ℕ} (H
         record {
           taken = q;
           few = omega arith;
-          reports = λ _ _. all ∙ sym (beside_nothing (passes_of f n a)) ∙ (λ i. beside (passes_of f n a) (iterated 0 (not (sym (P.near e) i)))) ∙ left_as f n k a (slot n w' 0) q;
+          reports = all ∙ sym (beside_nothing (passes_of f n a)) ∙ (λ i. beside (passes_of f n a) (iterated 0 (not (sym (P.near e) i)))) ∙ left_as f n k a (slot n w' 0) q;
           only = changed;
         }
 
-    pub rooting_fails : p.pass ≡ Failed → RootsTaken f n (record { roots = Refused; report = ρ' }) w₀ w'
+    pub rooting_fails : p.pass ≡ Failed → RootsTaken f n None w₀ w'
     unfolding rooting
     rooting_fails e = record {
       taken = sym (ap ended (fails (λ _. rooting_step f n) (rooted_as (slot n w₀ 0) 0) (rooted_as (slot n w 0) k) k H.state root_limit h (told Failed e)));
-      few = omega arith;
-      reports = λ j t. absurd (subst IsTaken (sym t) tt);
+      few = tt;
+      reports = tt;
       only = changed;
     }
 
   -- the norm is asked once more
-  pub rooting_out : {d : Bool} {v ρ'' : Report} → d ≡ is_far f n (slot n w 0) → v ≡ iterated 0 (not d) → ρ'' ≡ beside ρ v → root_limit ≤ k → RootsTaken f n (record { roots = Taken k; report = ρ'' }) w₀ w
+  pub rooting_out : {d : Bool} {v ρ'' : Report} → d ≡ is_far f n (slot n w 0) → v ≡ iterated 0 (not d) → ρ'' ≡ beside ρ v → root_limit ≤ k → RootsTaken f n (Some (record { count = root_limit; report = ρ'' })) w₀ w
   unfolding rooting
-  rooting_out far I B l =
+  rooting_out {ρ'' = ρ''} far I B l =
       let a = slot n w₀ 0 in
+      let every : k ≡ root_limit = omega (arith, H.within, l) in
       let q = sym (ap ended (runs_out (λ _. rooting_step f n) (rooted_as a 0) (rooted_as (slot n w 0) k) k H.state root_limit H.within l)) in
       let all = reporting_out (report_of f n) (λ _. rooting_step f n) (rooted_as a 0) k root_limit ρ H.report H.within l in
-      record {
+      subst (λ (m : ℕ). RootsTaken f n (Some (record { count = m; report = ρ'' })) w₀ w) every
+      (record {
         taken = q;
         few = H.within;
-        reports = λ _ _. B ∙ (λ i. beside (all i) (I i)) ∙ (λ i. beside (passes_of f n a) (iterated 0 (not (far i)))) ∙ left_as f n k a (slot n w 0) q;
+        reports = B ∙ (λ i. beside (all i) (I i)) ∙ (λ i. beside (passes_of f n a) (iterated 0 (not (far i)))) ∙ left_as f n k a (slot n w 0) q;
         only = H.only;
-      }
+      })
 
   -- the last sum of steps fits a u64
   pub out_fits : {b : Bool} {v : Report} → v ≡ iterated 0 b → ρ.steps + v.steps < 18446744073709551616
@@ -254,29 +248,25 @@ module _ (f : Format) (n : ℕ) (w₀ : List Float) (r : Room n w₀) where
         only = s4.only;
       }
 
-  module _ (w1 : List Float) (t : TakenRoots) (R : RootsTaken f n t w₀ w1) where
-    -- k roots leave the matrix in slot 0
-    left : (k : ℕ) → t.roots ≡ Taken k → done 0 (rooted_as (slot n w1 0) k) ≡ ended (rooting f n (slot n w₀ 0) root_limit)
-    left k e = ap (λ (z : Roots). as_taken z (slot n w1 0)) (sym e) ∙ R.taken
-
-    pub logarithm_done : (k : ℕ) (w2 : List Float) (ρ : Report) → t.roots ≡ Taken k → LogarithmNear f n k ρ w1 w2 → Replaced used n (logarithm f n (slot n w₀ 0)) (outcomes.Done 0) w₀ w2
+  -- the roots leave the matrix in slot 0
+  module _ (w1 : List Float) (t : TakenRoots) (R : RootsTaken f n (Some t) w₀ w1) where
+    pub logarithm_done : (w2 : List Float) (ρ : Report) → LogarithmNear f n t.count ρ w1 w2 → Replaced used n (logarithm f n (slot n w₀ 0)) (Ok 0) w₀ w2
     unfolding logarithm ◌>>=◌ outcome exit
-    logarithm_done k w2 ρ e L =
-        let q = left k e in
+    logarithm_done w2 ρ L =
         let x : done 0 (slot n w2 0) ≡ logarithm f n (slot n w₀ 0) =
-        L.result ∙ ap (λ (z : Result Rooted). z >>= λ v. near_logarithm f n v.roots v.work) q in
+        L.result ∙ ap (λ (z : Result Rooted). z >>= λ v. near_logarithm f n v.roots v.work) R.taken in
         record { outcome = ap outcome x; result = ap (λ (z : Result (List Float)). exit (λ v. v) z (slot n w2 0)) x; only = only_trans R.only L.only }
 
     -- the roots, and the series
-    pub logarithm_reported : (k : ℕ) (w2 : List Float) (ρ ρ' : Report) → t.roots ≡ Taken k → LogarithmNear f n k ρ w1 w2 → ρ' ≡ beside t.report ρ → ρ' ≡ log_report f n (slot n w₀ 0)
+    pub logarithm_reported : (w2 : List Float) (ρ ρ' : Report) → LogarithmNear f n t.count ρ w1 w2 → ρ' ≡ beside t.report ρ → ρ' ≡ log_report f n (slot n w₀ 0)
     unfolding log_report followed exit
-    logarithm_reported k w2 ρ ρ' e L B =
-        B ∙ (λ i. beside (R.reports k e i) (L.report i)) ∙ ap (λ (z : Result Rooted). followed z (roots_report f n (slot n w₀ 0)) (λ r. series_report f n (minus_identity_m f n r.work))) (left k e)
+    logarithm_reported w2 ρ ρ' L B =
+        B ∙ (λ i. beside (R.reports i) (L.report i)) ∙ ap (λ (z : Result Rooted). followed z (roots_report f n (slot n w₀ 0)) (λ r. series_report f n (minus_identity_m f n r.work))) R.taken
 
-    pub logarithm_refused : (o : Outcome) → t.roots ≡ Refused → reported o ≡ numbered NotConverged → Replaced used n (logarithm f n (slot n w₀ 0)) o w₀ w1
-    unfolding logarithm ◌>>=◌ outcome exit
-    logarithm_refused o e h =
-        let q : refused 13 0 0 ≡ ended (rooting f n (slot n w₀ 0) root_limit) = ap (λ (z : Roots). as_taken z (slot n w1 0)) (sym e) ∙ R.taken in
-        let x : refused 13 0 0 ≡ logarithm f n (slot n w₀ 0) =
-        ap (λ (z : Result Rooted). z >>= λ v. near_logarithm f n v.roots v.work) q in
-        record { outcome = h ∙ ap outcome x; result = ap (λ (z : Result (List Float)). exit (λ v. v) z (slot n w1 0)) x; only = R.only }
+  -- they are refused
+  pub logarithm_refused : (w1 : List Float) (R : RootsTaken f n None w₀ w1) (o : Outcome) → reported o ≡ numbered NotConverged → Replaced used n (logarithm f n (slot n w₀ 0)) o w₀ w1
+  unfolding logarithm ◌>>=◌ outcome exit
+  logarithm_refused w1 R o h =
+      let x : refused 13 0 0 ≡ logarithm f n (slot n w₀ 0) =
+      ap (λ (z : Result Rooted). z >>= λ v. near_logarithm f n v.roots v.work) R.taken in
+      record { outcome = h ∙ ap outcome x; result = ap (λ (z : Result (List Float)). exit (λ v. v) z (slot n w1 0)) x; only = R.only }

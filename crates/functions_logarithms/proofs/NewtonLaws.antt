@@ -1,15 +1,15 @@
 -- Laws of a pass of Newton's iteration in a workspace. Assumes nothing.
-use Prim.Native.Nat.{ℕ, ◌+◌, ◌-◌, ◌*◌}
+use Rattle.std.specs.Prelude.{Ok}
+use Prim.Native.Nat.{ℕ}
 use native.Mathlib.Omega.{arith}
 use mathlib.Core.Path.{◌≡◌, refl, sym, ap, ◌∙◌}
-use mathlib.Core.Bool.{Bool, true, false, cond}
+use mathlib.Core.Bool.{Bool, cond}
 use mathlib.Core.List.{List, [], ◌∷◌}
 use mathlib.Core.Option.{none, some}
 use lib.IntN.{pos}
-use lib.Ieee.{Float, Format, prec, emax, hid, lt, div, of_int, of_bits}
+use lib.Ieee.{Float, Format, lt, div, of_int}
 use Rattle.arithmetic_floats.specs.Float.{one, epsilon}
 use Rattle.arithmetic_floats.specs.Root.{sqrt_of}
-use Rattle.arithmetic_floats.proofs.Constants.{one_bits, epsilon_bits}
 use Rattle.arithmetic_matrices.specs.Product.{mean_m, diagonal_m}
 use Rattle.arithmetic_matrices.specs.Norm.{norm_of_difference, trace}
 use Rattle.arithmetic_matrices.specs.Workspace.{Room, slot, store, member, Only}
@@ -19,8 +19,6 @@ use Rattle.arithmetic_questions.proofs.ReportLaws.{same_steps}
 use Rattle.arithmetic_matrices.proofs.MatrixLaws.{square_le}
 use Rattle.arithmetic_matrices.proofs.Slots.{slot_only, only_trans, only_more}
 use Rattle.arithmetic_matrices.proofs.States.{start, step_mean, step_copy, step_call, step_diagonal, held_at, member_among}
-use Rattle.lu_factoring.specs.declared.LuOutcome.{LuOutcome}
-use Rattle.lu_factoring.specs.declared.LuOutcome.TheVariants.{Factored, Singular}
 use Rattle.lu_factoring.specs.Pivots.{smallest_pivot}
 use Rattle.lu_factoring.specs.Solve.{division, where_factored}
 use Rattle.functions_definitions.specs.Iterate.{after, verdict}
@@ -32,6 +30,7 @@ use Rattle.functions_roots.specs.declared.pass.Passed.{Passed}
 use Rattle.functions_roots.specs.declared.pass.Pass.TheVariants.{Failed}
 use Rattle.functions_roots.proofs.PassLaws.{step_tested, failed_reports}
 use Rattle.functions_logarithms.specs.Kernels.{ReportedNewton}
+use Rattle.lu_factoring.specs.Lu.{LuOutcome, singular}
 
 -- the slots that a pass changes, and where x stands
 abbrev pub used : List ℕ
@@ -65,7 +64,7 @@ module _ (f : Format) (n : ℕ) (w₀ : List Float) (r : Room n w₀) where
         (held_at 2 n s2 refl, held_at 1 n s3 refl, Q.result ∙ (λ i. division f n (held_at 2 n s2 refl i) (held_at 3 n s2 refl i)), s3.only)
 
     -- v is the smallest pivot
-    pub newton_passed : (w4 : List Float) (p : Pass) (v : Float) (ρ : Report) → o ≡ Factored → NewtonMean f n p w3 w4 → v ≡ smallest_pivot f n (slot n w2 2) → ρ ≡ factored v
+    pub newton_passed : (w4 : List Float) (p : Pass) (v : Float) (ρ : Report) → o ≡ Ok tt → NewtonMean f n p w3 w4 → v ≡ smallest_pivot f n (slot n w2 2) → ρ ≡ factored v
         → ReportedPass (newton_step f n (slot n w₀ 0)) (lu_report f n) (root n) used (record { pass = p; report = ρ }) w₀ w4
     unfolding newton_step lu_report
     newton_passed w4 p v ρ eo M ev e =
@@ -78,7 +77,7 @@ module _ (f : Format) (n : ℕ) (w₀ : List Float) (r : Room n w₀) where
           reports = record { few = omega (arith, same_steps e); report = λ _. e ∙ ap factored (ev ∙ ap (smallest_pivot f n) solved.0) };
         }
 
-    pub newton_failed : (k : ℕ) (ρ : Report) → o ≡ Singular k → ρ ≡ nothing → ReportedPass (newton_step f n (slot n w₀ 0)) (lu_report f n) (root n) used (record { pass = Failed; report = ρ }) w₀ w3
+    pub newton_failed : (k : ℕ) (ρ : Report) → o ≡ singular k → ρ ≡ nothing → ReportedPass (newton_step f n (slot n w₀ 0)) (lu_report f n) (root n) used (record { pass = Failed; report = ρ }) w₀ w3
     unfolding newton_step newton_next
     newton_failed k ρ eo e =
         let q : none ≡ division f n (slot n w₀ 1) (slot n w₀ 0) = ap (λ (z : LuOutcome). where_factored z (slot n w3 3)) (sym eo) ∙ solved.2 in
@@ -108,16 +107,7 @@ module _ (f : Format) (n : ℕ) (w₀ : List Float) (r : Room n w₀) where
 
 -- ---- the start's scale, by the test that the code makes
 
-module _ (f : Format) (n : ℕ) (w : List Float) (t d x : Float) (et : t ≡ trace f n (slot n w 0)) (ed : d ≡ of_int f (pos n)) (ex : x ≡ sqrt_of f (div f t d)) where
-  scale_root : x ≡ sqrt_of f (div f (trace f n (slot n w 0)) (of_int f (pos n)))
-  scale_root = ex ∙ (λ i. sqrt_of f (div f (et i) (ed i)))
-
-  scale_is : (b : Bool) → lt (of_bits f ((emax f + 1 - prec f) * hid f)) x ≡ b → cond b x one ≡ newton_scale f n (slot n w 0)
+module _ (f : Format) (n : ℕ) (w : List Float) (x : Float) (ex : x ≡ sqrt_of f (div f (trace f n (slot n w 0)) (of_int f (pos n)))) where
+  pub scale_is : (b : Bool) → lt (epsilon f) x ≡ b → cond b x one ≡ newton_scale f n (slot n w 0)
   unfolding newton_scale
-  scale_is b e = ap (λ (b : Bool). cond b x one) (sym e ∙ ap (λ (y : Float). lt y x) (epsilon_bits f)) ∙ ap (λ (y : Float). cond (lt (epsilon f) y) y one) scale_root
-
-  pub scale_above : lt (of_bits f ((emax f + 1 - prec f) * hid f)) x ≡ true → x ≡ newton_scale f n (slot n w 0)
-  scale_above e = scale_is true e
-
-  pub scale_one : lt (of_bits f ((emax f + 1 - prec f) * hid f)) x ≡ false → of_bits f (emax f * hid f) ≡ newton_scale f n (slot n w 0)
-  scale_one e = one_bits f ∙ scale_is false e
+  scale_is b e = ap (λ (b : Bool). cond b x one) (sym e) ∙ ap (λ (y : Float). cond (lt (epsilon f) y) y one) ex

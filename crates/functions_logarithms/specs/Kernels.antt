@@ -1,5 +1,5 @@
 -- What the parts of the logarithm and of its derivative leave in a workspace. Only the contracts of kernels cite it. Definitions only.
-use Rattle.std.specs.Prelude.{ℕ, suc, ◌≤◌, ◌≡◌, false, List, [], ◌∷◌, Float}
+use Rattle.std.specs.Prelude.{ℕ, suc, ◌≤◌, ◌≡◌, false, List, [], ◌∷◌, Float, Option, Some, None, IfSome}
 use Rattle.std.specs.Float.{Format}
 use Rattle.arithmetic_matrices.specs.Product.{minus_identity_m, difference_quotient_m}
 use Rattle.arithmetic_questions.specs.Result.{Result, refused, done}
@@ -12,9 +12,7 @@ use Rattle.functions_roots.specs.declared.pass.Pass.{Pass}
 use Rattle.functions_roots.specs.declared.pass.Passed.{Passed}
 use Rattle.functions_roots.specs.declared.pass.Pass.TheVariants.{Running, Stopped, Failed}
 use Rattle.functions_roots.specs.Kernels.{NewtonRoot, Reports}
-use Rattle.functions_logarithms.specs.declared.logarithm.Roots.{Roots}
 use Rattle.functions_logarithms.specs.declared.logarithm.TakenRoots.{TakenRoots}
-use Rattle.functions_logarithms.specs.declared.logarithm.Roots.TheVariants.{Taken, Refused}
 use Rattle.functions_definitions.specs.Derivatives.{log_step}
 use Rattle.functions_definitions.specs.Reports.{passes_report, newton_report, rooting_report, roots_report, series_report}
 
@@ -43,20 +41,15 @@ pub record RootingPass (f : Format) (n : ℕ) (r : Passed) (w w' : List Float) :
   pub only : Only (member (0 ∷ 1 ∷ 2 ∷ 3 ∷ [])) w w'
 
 -- what the passes answer, x being the matrix that they leave
-abbrev pub as_taken : Roots → List Float → Result Rooted
-as_taken (Taken k) x = done 0 (rooted_as x k)
-as_taken Refused x = refused 13 0 0
-
--- how many roots were taken, and 0 after a refusal
-abbrev pub count_of : Roots → ℕ
-count_of (Taken k) = k
-count_of Refused = 0
+abbrev pub as_taken : Option TakenRoots → List Float → Result Rooted
+as_taken (Some t) x = done 0 (rooted_as x t.count)
+as_taken None x = refused 13 0 0
 
 -- all passes
-pub record RootsTaken (f : Format) (n : ℕ) (r : TakenRoots) (w w' : List Float) : Type 0 where
-  pub taken : as_taken r.roots (slot n w' 0) ≡ ended (rooting f n (slot n w 0) root_limit)
-  pub few : count_of r.roots ≤ root_limit
-  pub reports : (k : ℕ) → r.roots ≡ Taken k → r.report ≡ roots_report f n (slot n w 0)
+pub record RootsTaken (f : Format) (n : ℕ) (r : Option TakenRoots) (w w' : List Float) : Type 0 where
+  pub taken : as_taken r (slot n w' 0) ≡ ended (rooting f n (slot n w 0) root_limit)
+  pub few : IfSome r (λ t. t.count ≤ root_limit)
+  pub reports : IfSome r (λ t. t.report ≡ roots_report f n (slot n w 0))
   pub only : Only (member (0 ∷ 1 ∷ 2 ∷ 3 ∷ [])) w w'
 
 -- ---- the series: X stands in slot 0, a power of it in slot 1, the sum in slot 2, a term in slot 3

@@ -1,7 +1,6 @@
 // The derivative of the logarithm as a difference quotient, in a workspace: the matrix stands in slot 0 and the direction in slot 4. Slot 5 keeps the
 // matrix and slot 6 its logarithm; slots 1 to 3 are scratch.
 ghost use Rattle.std.specs.Prelude.{◌≡◌, [], ◌∷◌};
-ghost use Rattle.std.specs.Float.{binary64};
 ghost use Rattle.arithmetic_matrices.specs.Product.{add_multiple_m};
 ghost use Rattle.arithmetic_matrices.specs.Workspace.{Room, slot};
 ghost use Rattle.arithmetic_questions.specs.Kernels.{ReplacedBoth};
@@ -11,21 +10,21 @@ ghost use Rattle.functions_definitions.specs.Reports.{log_report, frechet_log_re
 ghost use Rattle.functions_logarithms.specs.Kernels.{QuotientPlaced};
 
 use crate::logarithm::logm_in;
-use arithmetic_floats::root::sqrt;
+use arithmetic_floats::real::Real;
 use arithmetic_matrices::workspace::{accumulate, copy, difference_quotient};
-use arithmetic_questions::answer::{Answer, Outcome, answering, beside, refused};
+use arithmetic_questions::answer::{Answer, answering, beside, refused};
 
-// The step of the difference quotient: the root of 2^-52.
-fn log_step() -> f64
-    ensures { result ≡ log_step binary64 }
+// The step of the difference quotient: the root of `EPSILON`.
+fn log_step<T: Real>() -> T
+    ensures { T.float result ≡ log_step T.format }
 {
-    sqrt(2.220446049250313e-16)
+    T::EPSILON.sqrt()
 }
 
 // The logarithm in slot 6 goes to slot 0, and the difference quotient of slots 0 and 6 to slot 1.
-fn place_quotient(w: &mut [f64], n: usize)
-    requires { Room n w.old }
-    ensures { QuotientPlaced binary64 n w.old w.new }
+fn place_quotient<T: Real>(w: &mut [T], n: usize)
+    requires { Room n (T.floats w.old) }
+    ensures { QuotientPlaced T.format n (T.floats w.old) (T.floats w.new) }
 {
     difference_quotient(w, 0, 6, log_step(), n);
     copy(w, 0, 1, n);
@@ -33,10 +32,10 @@ fn place_quotient(w: &mut [f64], n: usize)
 }
 
 // The second logarithm, of the matrix moved a step in the direction. The first stands in slot 0.
-fn second_logarithm(w: &mut [f64], n: usize) -> Answer
-    requires { Room n w.old }
-    ensures replaced_both { ReplacedBoth (0 ∷ 1 ∷ 2 ∷ 3 ∷ 5 ∷ 6 ∷ []) n (second_logarithm binary64 n (slot n w.old 5) (slot n w.old 4) (slot n w.old 0)) result.outcome w.old w.new }
-    ensures report_value { result.report ≡ report_at (second_logarithm binary64 n (slot n w.old 5) (slot n w.old 4) (slot n w.old 0)) (log_report binary64 n (add_multiple_m binary64 n (log_step binary64) (slot n w.old 4) (slot n w.old 5))) }
+fn second_logarithm<T: Real>(w: &mut [T], n: usize) -> Answer
+    requires { Room n (T.floats w.old) }
+    ensures replaced_both { ReplacedBoth (0 ∷ 1 ∷ 2 ∷ 3 ∷ 5 ∷ 6 ∷ []) n (second_logarithm T.format n (slot n (T.floats w.old) 5) (slot n (T.floats w.old) 4) (slot n (T.floats w.old) 0)) result.outcome (T.floats w.old) (T.floats w.new) }
+    ensures report_value { result.report ≡ report_at (second_logarithm T.format n (slot n (T.floats w.old) 5) (slot n (T.floats w.old) 4) (slot n (T.floats w.old) 0)) (log_report T.format n (add_multiple_m T.format n (log_step T.format) (slot n (T.floats w.old) 4) (slot n (T.floats w.old) 5))) }
 {
     copy(w, 0, 6, n);
     accumulate(w, 5, 4, log_step(), n);
@@ -44,33 +43,33 @@ fn second_logarithm(w: &mut [f64], n: usize) -> Answer
     let answer = logm_in(w, n);
     let outcome = answer.outcome;
     match outcome {
-        Outcome::Done { halvings: _ } => {
+        Ok(_) => {
             place_quotient(w, n);
             let report = answer.report;
             Answer {
-                outcome: Outcome::Done { halvings: 0 },
+                outcome: Ok(0),
                 report,
             }
         }
-        Outcome::Refused(why) => refused(why),
+        Err(why) => refused(why),
     }
 }
 
 // The logarithm goes to slot 0, and its derivative in the direction of slot 4 to slot 1.
-pub fn frechet_logm_in(w: &mut [f64], n: usize) -> Answer
-    requires { Room n w.old }
-    ensures replaced_both { ReplacedBoth (0 ∷ 1 ∷ 2 ∷ 3 ∷ 5 ∷ 6 ∷ []) n (frechet_log_m binary64 n (slot n w.old 0) (slot n w.old 4)) result.outcome w.old w.new }
-    ensures report_value { result.report ≡ report_at (frechet_log_m binary64 n (slot n w.old 0) (slot n w.old 4)) (frechet_log_report binary64 n (slot n w.old 0) (slot n w.old 4)) }
+pub fn frechet_logm_in<T: Real>(w: &mut [T], n: usize) -> Answer
+    requires { Room n (T.floats w.old) }
+    ensures replaced_both { ReplacedBoth (0 ∷ 1 ∷ 2 ∷ 3 ∷ 5 ∷ 6 ∷ []) n (frechet_log_m T.format n (slot n (T.floats w.old) 0) (slot n (T.floats w.old) 4)) result.outcome (T.floats w.old) (T.floats w.new) }
+    ensures report_value { result.report ≡ report_at (frechet_log_m T.format n (slot n (T.floats w.old) 0) (slot n (T.floats w.old) 4)) (frechet_log_report T.format n (slot n (T.floats w.old) 0) (slot n (T.floats w.old) 4)) }
 {
     copy(w, 0, 5, n);
     let answer = logm_in(w, n);
     let outcome = answer.outcome;
     match outcome {
-        Outcome::Done { halvings: _ } => {
+        Ok(_) => {
             let second = second_logarithm(w, n);
             let end = second.outcome;
             answering(end, beside(answer.report, second.report))
         }
-        Outcome::Refused(why) => refused(why),
+        Err(why) => refused(why),
     }
 }

@@ -1,26 +1,23 @@
 // Newton's iteration for a square root, in a workspace: the matrix a of order n stands in slot 0, x in slot 1, and slots 2 and 3 are scratch.
 ghost use Rattle.std.specs.Prelude.{◌≡◌, [], ◌∷◌};
-ghost use Rattle.std.specs.Float.{binary64};
 ghost use Rattle.arithmetic_matrices.specs.Workspace.{Room, slot};
 ghost use Rattle.functions_definitions.specs.Reports.{lu_report};
 ghost use Rattle.functions_definitions.specs.Roots.{pass_limit, newton_step, newton_scale};
 ghost use Rattle.functions_roots.specs.Kernels.{NewtonMean, ReportedPass, ReportedPasses};
 ghost use Rattle.functions_logarithms.specs.Kernels.{ReportedNewton};
 
-use arithmetic_floats::float::of_small;
-use arithmetic_floats::root::sqrt;
+use arithmetic_floats::real::Real;
 use arithmetic_matrices::norm::{sum_of_squared_differences, trace};
 use arithmetic_matrices::workspace::{copy, diagonal, mean};
 use arithmetic_questions::answer::{beside, iterated, nothing};
 use arithmetic_questions::report::factored;
 use functions_roots::division::divide_slot;
 use functions_roots::pass::{Pass, Passed, root_verdict};
-use lu_factoring::LuOutcome;
 
 // x becomes the mean of itself and y, which stands in slot 3.
-fn newton_mean(w: &mut [f64], n: usize) -> Pass
-    requires { Room n w.old }
-    ensures { NewtonMean binary64 n result w.old w.new }
+fn newton_mean<T: Real>(w: &mut [T], n: usize) -> Pass
+    requires { Room n (T.floats w.old) }
+    ensures { NewtonMean T.format n result (T.floats w.old) (T.floats w.new) }
 {
     mean(w, 1, 3, 2, n);
     let sum = sum_of_squared_differences(w, 256, 512, n * n);
@@ -29,23 +26,23 @@ fn newton_mean(w: &mut [f64], n: usize) -> Pass
 }
 
 // One pass: x becomes the mean of itself and y, where x y = a. It reports the factoring of x.
-fn newton_pass(w: &mut [f64], n: usize) -> Passed
-    requires { Room n w.old }
-    ensures { ReportedPass (newton_step binary64 n (slot n w.old 0)) (lu_report binary64 n) (λ v. slot n v 1) (1 ∷ 2 ∷ 3 ∷ []) result w.old w.new }
+fn newton_pass<T: Real>(w: &mut [T], n: usize) -> Passed
+    requires { Room n (T.floats w.old) }
+    ensures { ReportedPass (newton_step T.format n (slot n (T.floats w.old) 0)) (lu_report T.format n) (λ v. slot n v 1) (1 ∷ 2 ∷ 3 ∷ []) result (T.floats w.old) (T.floats w.new) }
 {
     copy(w, 1, 2, n);
     copy(w, 0, 3, n);
     let division = divide_slot(w, 3, n);
     let outcome = division.outcome;
     match outcome {
-        LuOutcome::Factored => {
+        Ok(()) => {
             let pass = newton_mean(w, n);
             Passed {
                 pass,
                 report: factored(division.smallest),
             }
         }
-        LuOutcome::Singular(_) => Passed {
+        Err(_) => Passed {
             pass: Pass::Failed,
             report: nothing(),
         },
@@ -53,13 +50,12 @@ fn newton_pass(w: &mut [f64], n: usize) -> Passed
 }
 
 // At most 100 passes.
-fn newton_passes(w: &mut [f64], n: usize) -> Passed
-    requires { Room n w.old }
-    ensures { ReportedPasses (λ _. newton_step binary64 n (slot n w.old 0)) (lu_report binary64 n) pass_limit (λ v. slot n v 1) (1 ∷ 2 ∷ 3 ∷ []) result w.old w.new }
+fn newton_passes<T: Real>(w: &mut [T], n: usize) -> Passed
+    requires { Room n (T.floats w.old) }
+    ensures { ReportedPasses (λ _. newton_step T.format n (slot n (T.floats w.old) 0)) (lu_report T.format n) pass_limit (λ v. slot n v 1) (1 ∷ 2 ∷ 3 ∷ []) result (T.floats w.old) (T.floats w.new) }
 {
     let mut report = nothing();
-    let mut i: u64 = 0;
-    while i < 100 {
+    for i in 0..100u64 {
         let made = newton_pass(w, n);
         report = beside(report, made.report);
         let pass = made.pass;
@@ -78,31 +74,26 @@ fn newton_passes(w: &mut [f64], n: usize) -> Passed
                 };
             }
         }
-        i += 1;
     }
     Passed {
         pass: Pass::Running,
-        report: beside(report, iterated(i, false)),
+        report: beside(report, iterated(100, false)),
     }
 }
 
-// The start is this times the identity: the root of trace / n, or 1 unless that exceeds 2^-52.
-fn newton_scale(w: &[f64], n: usize) -> f64
-    requires { Room n w.now }
-    ensures { result ≡ newton_scale binary64 n (slot n w.now 0) }
+// The start is this times the identity: the root of trace / n, or 1 unless that exceeds `EPSILON`.
+fn newton_scale<T: Real>(w: &[T], n: usize) -> T
+    requires { Room n (T.floats w.now) }
+    ensures { T.float result ≡ newton_scale T.format n (slot n (T.floats w.now) 0) }
 {
-    let root = sqrt(trace(w, 0, n) / of_small(n));
-    if root > 2.220446049250313e-16 {
-        root
-    } else {
-        1.0
-    }
+    let root = (trace(w, 0, n) / T::of_small(n)).sqrt();
+    if T::EPSILON < root { root } else { T::ONE }
 }
 
 // The root of a goes to slot 1. A pass fails where LU refuses x.
-pub fn newton_root(w: &mut [f64], n: usize) -> Passed
-    requires { Room n w.old }
-    ensures { ReportedNewton binary64 n result w.old w.new }
+pub fn newton_root<T: Real>(w: &mut [T], n: usize) -> Passed
+    requires { Room n (T.floats w.old) }
+    ensures { ReportedNewton T.format n result (T.floats w.old) (T.floats w.new) }
 {
     let scale = newton_scale(w, n);
     diagonal(w, 1, scale, n);

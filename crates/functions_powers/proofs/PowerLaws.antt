@@ -1,4 +1,5 @@
 -- Laws of powers: the exponent that is taken for whole, and exp (p log A) in a workspace. Assumes nothing.
+use Rattle.std.specs.Prelude.{Ok}
 use mathlib.Core.Path.{◌≡◌, refl, sym, ap, ◌∙◌}
 use mathlib.Core.List.{List, [], ◌∷◌}
 use mathlib.Core.Bool.{Bool, true, false, cond}
@@ -10,11 +11,9 @@ use Rattle.arithmetic_floats.specs.Float.{near_integer, integer_of}
 use Rattle.arithmetic_matrices.specs.Product.{times_m}
 use Rattle.arithmetic_matrices.specs.Workspace.{Room, slot, store, member}
 use Rattle.arithmetic_questions.specs.Result.{Result, outcome}
-use Rattle.arithmetic_questions.specs.Answers.{reported}
+use Rattle.arithmetic_questions.specs.Answers.{Outcome, reported}
 use Rattle.arithmetic_questions.specs.Kernels.{Replaced}
 use Rattle.arithmetic_questions.specs.Reports.{beside, report_at}
-use Rattle.arithmetic_questions.specs.declared.answer.Outcome.{Outcome}
-use Rattle.arithmetic_questions.specs.declared.answer.Outcome.TheVariants.{Done}
 use Rattle.arithmetic_questions.specs.declared.answer.Report.{Report}
 use Rattle.arithmetic_questions.proofs.ReportLaws.{report_of_lem, report_joined}
 use Rattle.arithmetic_matrices.proofs.Slots.{only_trans}
@@ -72,7 +71,7 @@ module _ (f : Format) (n : ℕ) (p : Float) (w₀ w1 w2 : List Float) (r : Room 
 
 -- ---- the logarithm, and then the exponential of p times what it left in slot 0: ρ₁ and ρ₂ are their reports
 
-pub fractional_reported : (f : Format) (n s : ℕ) (p : Float) (a : List Float) (ss : List ℕ) (o o' : Outcome) (w w1 : List Float) (ρ₁ ρ₂ ρ ρ' : Report) → Replaced ss n (logarithm f n a) o w w1 → o ≡ Done s
+pub fractional_reported : (f : Format) (n s : ℕ) (p : Float) (a : List Float) (ss : List ℕ) (o o' : Outcome) (w w1 : List Float) (ρ₁ ρ₂ ρ ρ' : Report) → Replaced ss n (logarithm f n a) o w w1 → o ≡ Ok s
     → reported o' ≡ outcome (multiple_exponential f n p (slot n w1 0)) → reported o' ≡ outcome (fractional_power f n a p)
     → ρ₁ ≡ report_at (logarithm f n a) (log_report f n a) → ρ₂ ≡ report_at (multiple_exponential f n p (slot n w1 0)) (exp_report f n (times_m f n p (slot n w1 0))) → ρ ≡ beside ρ₁ ρ₂ → ρ' ≡ report_at (reported o') ρ
     → ρ' ≡ report_at (fractional_power f n a p) (fractional_report f n a p)

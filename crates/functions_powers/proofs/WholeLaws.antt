@@ -1,4 +1,5 @@
 -- Laws of whole powers: the bits of the exponent, and a run in a workspace. Assumes nothing.
+use Rattle.std.specs.Prelude.{Ok}
 use mathlib.Core.Path.{◌≡◌, refl, sym, ap, ◌∙◌, subst}
 use mathlib.Core.List.{List, [], ◌∷◌}
 use mathlib.Core.Bool.{Bool, true, false, cond}
@@ -16,23 +17,19 @@ use mir.Syntax.{w64}
 use mir.Val.{Fits, SFits, to_z, of_z}
 use mir.ValLaws.{to_z-of_z}
 use lib.Ieee.{Float, Format}
-use Rattle.lu_factoring.specs.declared.LuOutcome.{LuOutcome}
-use Rattle.lu_factoring.specs.declared.LuOutcome.TheVariants.{Factored, Singular}
 use Rattle.arithmetic_questions.specs.declared.answer.Refusal.TheVariants.{NotConverged}
-use Rattle.arithmetic_questions.specs.declared.answer.Outcome.{Outcome}
-use Rattle.arithmetic_questions.specs.declared.answer.Outcome.TheVariants.{Done}
 use Rattle.arithmetic_questions.specs.declared.answer.Report.{Report}
 use Rattle.arithmetic_matrices.specs.Product.{mul_m, identity_m, squared}
 use Rattle.arithmetic_matrices.specs.Workspace.{Room, slot, store, member, Only}
 use Rattle.arithmetic_matrices.specs.Kernels.{Squared}
 use Rattle.arithmetic_questions.specs.Result.{done, outcome, exit}
-use Rattle.arithmetic_questions.specs.Answers.{numbered, reported}
+use Rattle.arithmetic_questions.specs.Answers.{Outcome, numbered, reported}
 use Rattle.arithmetic_questions.specs.Kernels.{Replaced}
 use Rattle.arithmetic_questions.specs.Reports.{nothing, factored}
 use Rattle.arithmetic_floats.proofs.Order.{split}
 use Rattle.arithmetic_matrices.proofs.Slots.{only_refl, only_trans, only_more, room_kept, slot_kept}
 use Rattle.arithmetic_matrices.proofs.States.{State, held, upd, start, held_at, step_identity, step_mult, step_copy, member_among}
-use Rattle.lu_factoring.specs.Lu.{lu_outcome}
+use Rattle.lu_factoring.specs.Lu.{LuOutcome, singular, lu_outcome}
 use Rattle.lu_factoring.specs.Kernels.{divided}
 use Rattle.lu_factoring.specs.Pivots.{smallest_pivot}
 use Rattle.lu_factoring.specs.Solve.{division, inverse, quotient, where_factored}
@@ -156,18 +153,18 @@ module _ (f : Format) (n : ℕ) (w₀ : List Float) (r : Room n w₀) where
     changed : Only (member (0 ∷ 1 ∷ [])) w₀ w1
     changed = only_trans beside.only (subst (λ (w : List Float). Only (member (0 ∷ 1 ∷ [])) v w) (sym e1) (divided_only f n 0 1 v room (omega arith) o))
 
-    pub inverse_none : (k : ℕ) (o' : Outcome) → o ≡ Singular k → reported o' ≡ numbered NotConverged → Replaced (0 ∷ 1 ∷ []) n (or_not_converged (inverse f n (slot n w₀ 0))) o' w₀ w1
+    pub inverse_none : (k : ℕ) (o' : Outcome) → o ≡ singular k → reported o' ≡ numbered NotConverged → Replaced (0 ∷ 1 ∷ []) n (or_not_converged (inverse f n (slot n w₀ 0))) o' w₀ w1
     unfolding inverse division outcome exit
     inverse_none k o' s h = subst (λ (l : LuOutcome). Replaced (0 ∷ 1 ∷ []) n (or_not_converged (where_factored l (quotient f n (slot n w₀ 0) (identity_m n)))) o' w₀ w1) (sym s ∙ eo)
         (record { outcome = h; result = refl; only = changed })
 
-    pub inverse_done : (w2 : List Float) → o ≡ Factored → w2 ≡ store w1 0 (slot n w1 1) → Replaced (0 ∷ 1 ∷ []) n (or_not_converged (inverse f n (slot n w₀ 0))) (Done 0) w₀ w2
+    pub inverse_done : (w2 : List Float) → o ≡ Ok tt → w2 ≡ store w1 0 (slot n w1 1) → Replaced (0 ∷ 1 ∷ []) n (or_not_converged (inverse f n (slot n w₀ 0))) (Ok 0) w₀ w2
     unfolding inverse division outcome exit
     inverse_done w2 s e2 =
         let S2 = step_copy n r.order 1 0 (start (member (0 ∷ 1 ∷ [])) n (room_kept r changed.long)) e2 refl refl refl in
         let q : slot n w1 1 ≡ quotient f n (slot n w₀ 0) (identity_m n) =
-        ap (λ (w : List Float). slot n w 1) (e1 ∙ ap (divided f n n 0 256 v) s) ∙ divided_slot f n 0 1 v room (omega arith) Factored refl ∙ (λ i. quotient f n (held_at 0 n beside refl i) (held_at 1 n beside refl i)) in
-        subst (λ (l : LuOutcome). Replaced (0 ∷ 1 ∷ []) n (or_not_converged (where_factored l (quotient f n (slot n w₀ 0) (identity_m n)))) (Done 0) w₀ w2) (sym s ∙ eo)
+        ap (λ (w : List Float). slot n w 1) (e1 ∙ ap (divided f n n 0 256 v) s) ∙ divided_slot f n 0 1 v room (omega arith) (Ok tt) refl ∙ (λ i. quotient f n (held_at 0 n beside refl i) (held_at 1 n beside refl i)) in
+        subst (λ (l : LuOutcome). Replaced (0 ∷ 1 ∷ []) n (or_not_converged (where_factored l (quotient f n (slot n w₀ 0) (identity_m n)))) (Ok 0) w₀ w2) (sym s ∙ eo)
         (record { outcome = refl; result = held_at 0 n S2 refl ∙ q; only = only_trans changed S2.only })
 
 -- the report of the factoring

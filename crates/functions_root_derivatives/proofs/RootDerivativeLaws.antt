@@ -1,4 +1,5 @@
 -- Laws of the Sylvester system in a workspace, and of the derivatives of the square root. `second` of S is T. Assumes nothing.
+use Rattle.std.specs.Prelude.{Ok, Err}
 use Prim.Native.Nat.{ℕ, ◌+◌, ◌-◌, ◌*◌, ◌≤◌, ◌<◌}
 use native.Mathlib.Nat.{mul-le-mul, mul-one}
 use native.Mathlib.Omega.{arith}
@@ -17,10 +18,8 @@ use Rattle.arithmetic_matrices.specs.Workspace.{Room, slot, store, member, Only}
 use Rattle.arithmetic_questions.specs.Result.{Result, refused, done, ◌>>=◌, outcome, exit}
 use Rattle.arithmetic_questions.specs.Outputs.{Both}
 use Rattle.arithmetic_questions.specs.Kernels.{Replaced, ReplacedBoth}
-use Rattle.arithmetic_questions.specs.Answers.{numbered, reported}
+use Rattle.arithmetic_questions.specs.Answers.{Outcome, numbered, reported}
 use Rattle.arithmetic_questions.specs.Reports.{nothing, factored, beside, report_at}
-use Rattle.arithmetic_questions.specs.declared.answer.Outcome.{Outcome}
-use Rattle.arithmetic_questions.specs.declared.answer.Outcome.TheVariants.{Done, Refused}
 use Rattle.arithmetic_questions.specs.declared.answer.Refusal.{Refusal}
 use Rattle.arithmetic_questions.specs.declared.answer.Report.{Report}
 use Rattle.arithmetic_questions.proofs.ReportLaws.{report_of_lem}
@@ -29,9 +28,7 @@ use Rattle.arithmetic_matrices.proofs.MatrixLaws.{square_le, tab_is, length-grid
 use Rattle.arithmetic_matrices.proofs.PartLaws.{length_part, length-put, part_put, part_put_apart, returned}
 use Rattle.arithmetic_matrices.proofs.Slots.{only_trans, only_more, only_run, only_store, slot_only, slot_store}
 use Rattle.arithmetic_matrices.proofs.States.{Held, start, step_store, step_transpose, step_call, held_at, member_among}
-use Rattle.lu_factoring.specs.declared.LuOutcome.{LuOutcome}
-use Rattle.lu_factoring.specs.declared.LuOutcome.TheVariants.{Factored, Singular}
-use Rattle.lu_factoring.specs.Lu.{lu_outcome, lu_factors, lu_pivots, lu_at}
+use Rattle.lu_factoring.specs.Lu.{LuOutcome, singular, lu_outcome, lu_factors, lu_pivots, lu_at}
 use Rattle.lu_factoring.specs.Pivots.{smallest_pivot}
 use Rattle.lu_factoring.specs.Solve.{permuted, forward, solved, solved_matrix, stand_in, where_factored}
 use Rattle.lu_factoring.specs.Kernels.{divided}
@@ -95,16 +92,16 @@ module _ (f : Format) (n : ℕ) (w : List Float) (h : n * n ≤ 64) (room : 8192
   -- slot 7 holds the solution, or what it held where LU refuses
   column_solved : (o : LuOutcome) → slot n (divided f (n * n) 1 2048 1792 w o) 7 ≡ stand_in o X (slot n w 7)
   unfolding divided slot X K
-  column_solved Factored =
+  column_solved (Ok _) =
       part_put (put w 2048 (lu_factors f (n * n) K)) 1792 X (n * n) (length-solved_matrix f (n * n) 1 _ _ _ ∙ mul-one (n * n)) (omega (arith, length-put w 2048 (lu_factors f (n * n) K)))
-  column_solved (Singular k) = part_put_apart w 2048 (n * n * (n * n)) (lu_at f (n * n) K k) 1792 (n * n) (inl (omega arith)) (omega (arith, long_factors k))
+  column_solved (Err bad) = part_put_apart w 2048 (n * n * (n * n)) (lu_at f (n * n) K bad.column) 1792 (n * n) (inl (omega arith)) (omega (arith, long_factors bad.column))
 
   column_only : (o : LuOutcome) → Only (member system_slots) w (divided f (n * n) 1 2048 1792 w o)
   unfolding divided store X K
-  column_only Factored =
+  column_only (Ok _) =
       only_trans (only_run (member system_slots) w 8 16 (lu_factors f (n * n) K) refl (unfold lu_factors in omega (arith, long_factors (n * n), mul-le-mul h h)))
       (only_store (member system_slots) (put w 2048 (lu_factors f (n * n) K)) 7 X refl (omega (arith, length-solved_matrix f (n * n) 1 (lu_factors f (n * n) K) (lu_pivots f (n * n) K) (part w 1792 (n * n * 1)), mul-one (n * n))))
-  column_only (Singular k) = only_run (member system_slots) w 8 16 (lu_at f (n * n) K k) refl (omega (arith, long_factors k, mul-le-mul h h))
+  column_only (Err bad) = only_run (member system_slots) w 8 16 (lu_at f (n * n) K bad.column) refl (omega (arith, long_factors bad.column, mul-le-mul h h))
 
   pub system_solved : (w' : List Float) (o : LuOutcome) → o ≡ lu_outcome f (n * n) (part w 2048 (n * n * (n * n))) → w' ≡ divided f (n * n) 1 2048 1792 w o → SystemSolved f n o w w'
   unfolding column_division slot K X
@@ -119,8 +116,8 @@ module _ (f : Format) (n : ℕ) (w : List Float) (h : n * n ≤ 64) (room : 8192
           ∙ solved_column f (n * n) (lu_factors f (n * n) K) (lu_pivots f (n * n) K) (part w 1792 (n * n)) (length_part w 1792 (n * n))
 
       go : (o : LuOutcome) → slot n w' 7 ≡ stand_in o X (slot n w 7) → where_factored o (slot n w' 7) ≡ where_factored o X
-      go Factored q = ap some q
-      go (Singular k) q = refl
+      go (Ok _) q = ap some q
+      go (Err bad) q = refl
 
 -- ---- the derivative
 
@@ -141,7 +138,7 @@ module _ (f : Format) (n : ℕ) (second : List Float → List Float) (w₀ : Lis
         let s3 = step_call system_slots s2 Q.only (member_among (member derived_slots) system_slots refl) in
         (ap (λ (z : Option (List Float)). or_not_converged z >>= λ x. done 0 (transpose_m n x)) (Q.result ∙ (λ i. column_division f (n * n) (held_at 8 (n * n) s2 refl i) (held_at 7 n s2 refl i))), s3.only, held_at 8 (n * n) s2 refl)
 
-    pub sylvester_solved : (w4 : List Float) → o ≡ Factored → w4 ≡ store w3 1 (transpose_m n (slot n w3 7)) → Derived n (sylvester f n (slot n w₀ 0) (second (slot n w₀ 0)) (slot n w₀ 6)) true w₀ w4
+    pub sylvester_solved : (w4 : List Float) → o ≡ Ok tt → w4 ≡ store w3 1 (transpose_m n (slot n w3 7)) → Derived n (sylvester f n (slot n w₀ 0) (second (slot n w₀ 0)) (slot n w₀ 6)) true w₀ w4
     unfolding answered ◌>>=◌
     sylvester_solved w4 eo e4 =
         let r3 : Room n w3 = record { order = r.order; space = rw solution.1.long r.space } in
@@ -156,7 +153,7 @@ module _ (f : Format) (n : ℕ) (second : List Float → List Float) (w₀ : Lis
     unfolding lu_report
     sylvester_reported v ρ ev e = e ∙ ap factored (ev ∙ ap (smallest_pivot f (n * n)) solution.2)
 
-    pub sylvester_refused : (k : ℕ) → o ≡ Singular k → Derived n (sylvester f n (slot n w₀ 0) (second (slot n w₀ 0)) (slot n w₀ 6)) false w₀ w3
+    pub sylvester_refused : (k : ℕ) → o ≡ singular k → Derived n (sylvester f n (slot n w₀ 0) (second (slot n w₀ 0)) (slot n w₀ 6)) false w₀ w3
     unfolding answered ◌>>=◌
     sylvester_refused k eo = record { result = ap (λ (z : LuOutcome). answered (where_factored z (slot n w3 7))) (sym eo) ∙ solution.0; only = solution.1 }
 
@@ -197,11 +194,11 @@ module _ (f : Format) (n : ℕ) (second : List Float → List Float) (w₀ : Lis
   wide : Only (member both_slots) w₀ w1
   wide = only_more (member_among (member both_slots) root_slots refl) R.only
 
-  pub root_refused_both : (p : Outcome) (y : Refusal) → o ≡ Refused y → reported p ≡ numbered y → ReplacedBoth both_slots n (root_with_derivative f n second (slot n w₀ 0) (slot n w₀ 6)) p w₀ w1
+  pub root_refused_both : (p : Outcome) (y : Refusal) → o ≡ Err y → reported p ≡ numbered y → ReplacedBoth both_slots n (root_with_derivative f n second (slot n w₀ 0) (slot n w₀ 6)) p w₀ w1
   unfolding root_with_derivative
   root_refused_both p y e ep = both_refused (square_root f n (slot n w₀ 0)) _ both_slots n o p y w₀ w1 R.outcome e ep wide
 
-  module _ (s : ℕ) (b : Bool) (w2 : List Float) (eo : o ≡ Done s) (D : Derived n (root_derivative f n (slot n w1 0) (second (slot n w1 0)) (slot n w1 6)) b w1 w2) where
+  module _ (s : ℕ) (b : Bool) (w2 : List Float) (eo : o ≡ Ok s) (D : Derived n (root_derivative f n (slot n w1 0) (second (slot n w1 0)) (slot n w1 6)) b w1 w2) where
     -- what follows the root
     follows : List Float → Result Both
     follows v = root_derivative f n v (second v) (slot n w₀ 6) >>= λ x. done 0 (record { value = v; derivative = x })
@@ -223,11 +220,11 @@ module _ (f : Format) (n : ℕ) (second : List Float → List Float) (w₀ : Lis
     unfolding root_with_derivative follows
     after_root p S = both_follows (square_root f n (slot n w₀ 0)) follows (slot n w1 0) s n both_slots p w₀ w1 w2 (call_done (square_root f n (slot n w₀ 0)) o (slot n w1 0) s R.outcome R.result eo) wide S
 
-    pub derivative_done : b ≡ true → ReplacedBoth both_slots n (root_with_derivative f n second (slot n w₀ 0) (slot n w₀ 6)) (Done 0) w₀ w2
+    pub derivative_done : b ≡ true → ReplacedBoth both_slots n (root_with_derivative f n second (slot n w₀ 0) (slot n w₀ 6)) (Ok 0) w₀ w2
     unfolding follows ◌>>=◌ outcome exit
     derivative_done e =
         let x : root_derivative f n (slot n w1 0) (second (slot n w1 0)) (slot n w₀ 6) ≡ done 0 (slot n w2 1) = sym (ap (λ (z : Bool). where_accepted z (slot n w2 1)) (sym e) ∙ made) in
-        after_root (Done 0) (rw x (record { outcome = refl; value = kept; derivative = refl; only = narrow }))
+        after_root (Ok 0) (rw x (record { outcome = refl; value = kept; derivative = refl; only = narrow }))
 
     pub derivative_refused : (p : Outcome) → b ≡ false → reported p ≡ refused 13 0 0 → ReplacedBoth both_slots n (root_with_derivative f n second (slot n w₀ 0) (slot n w₀ 6)) p w₀ w2
     unfolding follows ◌>>=◌ outcome exit

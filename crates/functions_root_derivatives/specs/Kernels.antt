@@ -3,12 +3,12 @@ use Rattle.std.specs.Prelude.{ℕ, ◌*◌, ◌≡◌, Bool, true, false, cond, 
 use Rattle.std.specs.Float.{Format}
 use Rattle.arithmetic_matrices.specs.Product.{transpose_m}
 use Rattle.arithmetic_matrices.specs.Workspace.{slot, member, Only}
-use Rattle.lu_factoring.specs.declared.LuOutcome.{LuOutcome}
 use Rattle.lu_factoring.specs.Solve.{where_factored}
 use Rattle.functions_definitions.specs.Derivatives.{column_division, root_with_derivative}
 use Rattle.arithmetic_questions.specs.Result.{Result, refused, done}
 use Rattle.arithmetic_questions.specs.Questions.{answer, binary, of_frechet_sqrtm}
 use Rattle.arithmetic_questions.specs.Outputs.{Both}
+use Rattle.lu_factoring.specs.Lu.{LuOutcome}
 
 -- T of the system S X + X T' = E: S, or its transpose
 abbrev pub second_of : Bool → ℕ → List Float → List Float

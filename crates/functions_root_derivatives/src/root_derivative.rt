@@ -2,7 +2,6 @@
 // S X + X T' = E of order n * n stands from slot 8 on, and its right-hand column in slot 7. T is S, or its transpose where `transposed` is true; T' is the
 // transpose of T.
 ghost use Rattle.std.specs.Prelude.{◌≡◌, true, ◌∷◌, ◌*◌, ◌≤◌, length};
-ghost use Rattle.std.specs.Float.{binary64};
 ghost use Rattle.arithmetic_matrices.specs.Workspace.{Room, slot, store};
 ghost use Rattle.arithmetic_questions.specs.Kernels.{ReplacedBoth};
 ghost use Rattle.arithmetic_questions.specs.Reports.{report_at};
@@ -12,11 +11,11 @@ ghost use Rattle.functions_definitions.specs.Reports.{lu_report, root_derivative
 ghost use Rattle.functions_root_derivatives.specs.Kernels.{second_of, SystemSolved, Derived, derived_slots};
 
 use crate::sylvester::sylvester_into;
+use arithmetic_floats::real::Real;
 use arithmetic_matrices::workspace::{copy_out, small_room, transpose};
-use arithmetic_questions::answer::{Answer, Outcome, Refusal, Report, beside, nothing, refused};
+use arithmetic_questions::answer::{Answer, Refusal, Report, beside, nothing, refused};
 use arithmetic_questions::report::factored;
 use functions_roots::square_root::sqrtm_in;
-use lu_factoring::LuOutcome;
 use lu_factoring::room::pivot_room;
 use lu_systems::workspace::{Division, divide_reporting};
 
@@ -28,9 +27,9 @@ struct Derivation {
 }
 
 // The system's matrix is written from slot 8 on. s is room for S.
-fn fill_system(w: &mut [f64], n: usize, transposed: bool, s: &mut [f64])
+fn fill_system<T: Real>(w: &mut [T], n: usize, transposed: bool, s: &mut [T])
     requires { (n ≤ 8) × (n * n ≤ 64) × (8192 ≤ length w.old) × (length s.old ≡ n * n) }
-    ensures { w.new ≡ store w.old 8 (sylvester_matrix binary64 n (slot n w.old 0) (second_of transposed n (slot n w.old 0))) }
+    ensures { T.floats w.new ≡ store (T.floats w.old) 8 (sylvester_matrix T.format n (slot n (T.floats w.old) 0) (second_of transposed n (slot n (T.floats w.old) 0))) }
 {
     copy_out(w, 0, s);
     let end = 2048 + (n * n) * (n * n);
@@ -38,9 +37,9 @@ fn fill_system(w: &mut [f64], n: usize, transposed: bool, s: &mut [f64])
 }
 
 // `fill_system` with room of its own.
-fn load_system(w: &mut [f64], n: usize, transposed: bool)
+fn load_system<T: Real>(w: &mut [T], n: usize, transposed: bool)
     requires { (n ≤ 8) × (n * n ≤ 64) × (8192 ≤ length w.old) }
-    ensures { w.new ≡ store w.old 8 (sylvester_matrix binary64 n (slot n w.old 0) (second_of transposed n (slot n w.old 0))) }
+    ensures { T.floats w.new ≡ store (T.floats w.old) 8 (sylvester_matrix T.format n (slot n (T.floats w.old) 0) (second_of transposed n (slot n (T.floats w.old) 0))) }
 {
     let size = n * n;
     let mut s = small_room();
@@ -48,10 +47,10 @@ fn load_system(w: &mut [f64], n: usize, transposed: bool)
 }
 
 // The right-hand column becomes the solution, where LU accepts the system's matrix.
-fn solve_system(w: &mut [f64], n: usize) -> Division
+fn solve_system<T: Real>(w: &mut [T], n: usize) -> Division<T>
     requires { (n ≤ 8) × (n * n ≤ 64) × (8192 ≤ length w.old) }
-    ensures system_solved { SystemSolved binary64 n result.outcome w.old w.new }
-    ensures smallest_value { result.smallest ≡ smallest_pivot binary64 (n * n) (slot (n * n) w.old 8) }
+    ensures system_solved { SystemSolved T.format n result.outcome (T.floats w.old) (T.floats w.new) }
+    ensures smallest_value { T.float result.smallest ≡ smallest_pivot T.format (n * n) (slot (n * n) (T.floats w.old) 8) }
 {
     let size = n * n;
     let mut rows = pivot_room();
@@ -59,25 +58,25 @@ fn solve_system(w: &mut [f64], n: usize) -> Division
 }
 
 // The columns of X, one below the other, are the solution for those of E.
-fn sylvester(w: &mut [f64], n: usize, transposed: bool) -> Derivation
-    requires room { Room n w.old }
+fn sylvester<T: Real>(w: &mut [T], n: usize, transposed: bool) -> Derivation
+    requires room { Room n (T.floats w.old) }
     requires n_bound { (n ≤ 8) × (n * n ≤ 64) }
-    ensures derived { Derived n (sylvester_of binary64 n (slot n w.old 0) (second_of transposed n (slot n w.old 0)) (slot n w.old 6)) result.accepted w.old w.new }
-    ensures report_value { result.accepted ≡ true → result.report ≡ lu_report binary64 (n * n) (sylvester_matrix binary64 n (slot n w.old 0) (second_of transposed n (slot n w.old 0))) }
+    ensures derived { Derived n (sylvester_of T.format n (slot n (T.floats w.old) 0) (second_of transposed n (slot n (T.floats w.old) 0)) (slot n (T.floats w.old) 6)) result.accepted (T.floats w.old) (T.floats w.new) }
+    ensures report_value { result.accepted ≡ true → result.report ≡ lu_report T.format (n * n) (sylvester_matrix T.format n (slot n (T.floats w.old) 0) (second_of transposed n (slot n (T.floats w.old) 0))) }
 {
     load_system(w, n, transposed);
     transpose(w, 6, 7, n);
     let d = solve_system(w, n);
     let outcome = d.outcome;
     match outcome {
-        LuOutcome::Factored => {
+        Ok(()) => {
             transpose(w, 7, 1, n);
             Derivation {
                 accepted: true,
                 report: factored(d.smallest),
             }
         }
-        LuOutcome::Singular(_) => Derivation {
+        Err(_) => Derivation {
             accepted: false,
             report: nothing(),
         },
@@ -85,18 +84,22 @@ fn sylvester(w: &mut [f64], n: usize, transposed: bool) -> Derivation
 }
 
 // Of order 1: e / (2 r), or +0 where the root r is not above 0.
-pub fn scalar_derivative(r: f64, e: f64) -> f64
-    ensures { result ≡ scalar_derivative binary64 r e }
+pub fn scalar_derivative<T: Real>(r: T, e: T) -> T
+    ensures { T.float result ≡ scalar_derivative T.format (T.float r) (T.float e) }
 {
-    if r > 0.0 { e / (2.0 * r) } else { 0.0 }
+    if T::ZERO < r {
+        e / (T::power_of_two(1) * r)
+    } else {
+        T::ZERO
+    }
 }
 
 // The derivative goes to slot 1. At order 1 there is no system.
-fn derive_root(w: &mut [f64], n: usize, transposed: bool) -> Derivation
-    requires room { Room n w.old }
+fn derive_root<T: Real>(w: &mut [T], n: usize, transposed: bool) -> Derivation
+    requires room { Room n (T.floats w.old) }
     requires n_bound { (n ≤ 8) × (n * n ≤ 64) }
-    ensures derived { Derived n (root_derivative binary64 n (slot n w.old 0) (second_of transposed n (slot n w.old 0)) (slot n w.old 6)) result.accepted w.old w.new }
-    ensures report_value { result.accepted ≡ true → result.report ≡ root_derivative_report binary64 n (slot n w.old 0) (second_of transposed n (slot n w.old 0)) }
+    ensures derived { Derived n (root_derivative T.format n (slot n (T.floats w.old) 0) (second_of transposed n (slot n (T.floats w.old) 0)) (slot n (T.floats w.old) 6)) result.accepted (T.floats w.old) (T.floats w.new) }
+    ensures report_value { result.accepted ≡ true → result.report ≡ root_derivative_report T.format n (slot n (T.floats w.old) 0) (second_of transposed n (slot n (T.floats w.old) 0)) }
 {
     if n == 1 {
         w[256] = scalar_derivative(w[0], w[1536]);
@@ -109,26 +112,26 @@ fn derive_root(w: &mut [f64], n: usize, transposed: bool) -> Derivation
 }
 
 // The square root goes to slot 0, and its derivative in the direction of slot 6 to slot 1.
-pub fn root_derivative_in(w: &mut [f64], n: usize, transposed: bool) -> Answer
-    requires room { Room n w.old }
+pub fn root_derivative_in<T: Real>(w: &mut [T], n: usize, transposed: bool) -> Answer
+    requires room { Room n (T.floats w.old) }
     requires n_bound { (n ≤ 8) × (n * n ≤ 64) }
-    ensures replaced_both { ReplacedBoth (0 ∷ 2 ∷ 3 ∷ 4 ∷ 5 ∷ derived_slots) n (root_with_derivative binary64 n (second_of transposed n) (slot n w.old 0) (slot n w.old 6)) result.outcome w.old w.new }
-    ensures report_value { result.report ≡ report_at (root_with_derivative binary64 n (second_of transposed n) (slot n w.old 0) (slot n w.old 6)) (root_with_derivative_report binary64 n (second_of transposed n) (slot n w.old 0)) }
+    ensures replaced_both { ReplacedBoth (0 ∷ 2 ∷ 3 ∷ 4 ∷ 5 ∷ derived_slots) n (root_with_derivative T.format n (second_of transposed n) (slot n (T.floats w.old) 0) (slot n (T.floats w.old) 6)) result.outcome (T.floats w.old) (T.floats w.new) }
+    ensures report_value { result.report ≡ report_at (root_with_derivative T.format n (second_of transposed n) (slot n (T.floats w.old) 0) (slot n (T.floats w.old) 6)) (root_with_derivative_report T.format n (second_of transposed n) (slot n (T.floats w.old) 0)) }
 {
     let root = sqrtm_in(w, n);
     let outcome = root.outcome;
     match outcome {
-        Outcome::Done { halvings: _ } => {
+        Ok(_) => {
             let derivation = derive_root(w, n, transposed);
             if derivation.accepted {
                 Answer {
-                    outcome: Outcome::Done { halvings: 0 },
+                    outcome: Ok(0),
                     report: beside(root.report, derivation.report),
                 }
             } else {
                 refused(Refusal::NotConverged)
             }
         }
-        Outcome::Refused(why) => refused(why),
+        Err(why) => refused(why),
     }
 }

@@ -1,15 +1,14 @@
 -- Laws of a loop over passes in a workspace, for every state that is read from it, and of a system in slots. Assumes nothing.
-use Prim.Native.Nat.{ℕ, ◌+◌, ◌-◌, ◌*◌, ◌≤◌, ◌<◌}
+use Rattle.std.specs.Prelude.{Ok, Err}
+use Prim.Native.Nat.{ℕ, ◌+◌, ◌*◌, ◌≤◌, ◌<◌}
 use native.Mathlib.Omega.{arith}
 use mathlib.Core.Path.{◌≡◌, refl, sym, ap, ◌∙◌}
 use mathlib.Core.Bool.{Bool, true, false, true≢false}
 use mathlib.Core.List.{List}
 use mathlib.Core.Option.{some}
-use lib.Dec.{T, eqb}
-use lib.Ieee.{Float, Format, binary32, binary64, prec, fits, lt, le, mul, of_int, round, sub}
-use Rattle.arithmetic_floats.specs.Float.{inverse_power_of_two}
+use lib.Dec.{eqb}
+use lib.Ieee.{Float, Format, sub}
 use Rattle.arithmetic_floats.specs.Root.{sqrt_of}
-use Rattle.arithmetic_floats.proofs.RootBounds.{root_not_below}
 use Rattle.arithmetic_matrices.specs.Matrix.{part, tab, item}
 use Rattle.arithmetic_matrices.specs.Norm.{sum_of_squares, frobenius, norm_of_difference}
 use Rattle.arithmetic_questions.specs.Result.{done, refused}
@@ -19,13 +18,11 @@ use Rattle.arithmetic_questions.proofs.ReportLaws.{same_steps}
 use Rattle.arithmetic_matrices.specs.Workspace.{Room, slot, member, Only}
 use Rattle.arithmetic_matrices.proofs.ProductLaws.{sub_m_parts}
 use Rattle.arithmetic_matrices.proofs.Slots.{only_refl, only_trans}
-use Rattle.lu_factoring.specs.declared.LuOutcome.{LuOutcome}
-use Rattle.lu_factoring.specs.declared.LuOutcome.TheVariants.{Factored, Singular}
-use Rattle.lu_factoring.specs.Lu.{lu_outcome}
+use Rattle.lu_factoring.specs.Lu.{LuOutcome, lu_outcome}
 use Rattle.lu_factoring.specs.Kernels.{divided}
 use Rattle.lu_factoring.specs.Solve.{stand_in, quotient, division, where_factored}
 use Rattle.lu_factoring.proofs.DivisionLaws.{divided_slot, divided_only}
-use Rattle.functions_definitions.specs.Roots.{root_tolerance, pass_limit}
+use Rattle.functions_definitions.specs.Roots.{pass_limit}
 use Rattle.functions_definitions.specs.Reports.{passes_report}
 use Rattle.functions_definitions.specs.Iterate.{Step, running, stopped, after, verdict, ended}
 use Rattle.functions_roots.specs.Kernels.{as_step, tested, answered, OnePass, Passes, Reports, ReportedPass, ReportedPasses, SlotQuotient}
@@ -44,12 +41,6 @@ step_tested false x = refl
 pub root_of_squares : (f : Format) (n : ℕ) (w : List Float) (a b : ℕ) (s : Float) → s ≡ sum_of_squares f (n * n) (tab (n * n) (λ i. sub f (item w (256 * a + i)) (item w (256 * b + i)))) → sqrt_of f s ≡ norm_of_difference f n (slot n w a) (slot n w b)
 unfolding norm_of_difference frobenius slot
 root_of_squares f n w a b s e = ap (sqrt_of f) e ∙ ap (λ (x : List Float). sqrt_of f (sum_of_squares f (n * n) x)) (sym (sub_m_parts f n w (256 * a) (256 * b)))
-
--- The root of a sum of squares above 2 ^ -2 k is 2 ^ -k at least, and so not below the tolerance, 100 * 2 ^ (1 - prec), where k is prec - 13: 40 for binary64.
-pub large_root : (f : Format) (x : Float) → T (fits f x) → T (lt (inverse_power_of_two (2 * (prec f - 13))) x) → lt (sqrt_of f x) (root_tolerance f) ≡ false
-unfolding fits le mul of_int root_tolerance round
-large_root binary32 x h l = root_not_below binary32 x (inverse_power_of_two (prec binary32 - 13)) (inverse_power_of_two (2 * (prec binary32 - 13))) (root_tolerance binary32) h tt tt tt (refl, refl) tt l
-large_root binary64 x h l = root_not_below binary64 x (inverse_power_of_two (prec binary64 - 13)) (inverse_power_of_two (2 * (prec binary64 - 13))) (root_tolerance binary64) h tt tt tt (refl, refl) tt l
 
 -- what an iteration that has a result ends with, and one that failed
 pub answers_ended : {S : Type 0} (p : Pass) (x : S) → answered p ≡ true → done 0 x ≡ ended (as_step p x)
@@ -167,9 +158,6 @@ module _ {S : Type 0} {g : ℕ → S → Step S} {h : S → Report} {read : List
   pub turn_fits : {p : Passed} {t : Report} → Reports 0 p t → ρ.steps + p.report.steps < 18446744073709551616
   turn_fits R = omega (arith, H.few, R.few)
 
-  pub end_fits : {v : Report} {b : Bool} → v ≡ iterated i b → ρ.steps + v.steps < 18446744073709551616
-  end_fits I = omega (arith, same_steps I, H.few, H.passing.within)
-
 -- ---- a system: the matrix in slot 2, the right-hand matrix in slot x
 
 pub quotient_slot : (f : Format) (n x : ℕ) (w w' : List Float) (o : LuOutcome) → Room n w → x < 32 → eqb 2 x ≡ false → o ≡ lu_outcome f n (part w 512 (n * n)) → w' ≡ divided f n n 512 (256 * x) w o → SlotQuotient f n x o w w'
@@ -183,5 +171,5 @@ quotient_slot f n x w w' o r small e eo ew = record {
     Q = quotient f n (slot n w 2) (slot n w x)
 
     go : (o : LuOutcome) → slot n w' x ≡ stand_in o Q (slot n w x) → where_factored o (slot n w' x) ≡ where_factored o Q
-    go Factored q = ap some q
-    go (Singular k) q = refl
+    go (Ok _) q = ap some q
+    go (Err bad) q = refl

@@ -1,4 +1,5 @@
 -- Laws of a pass of Denman and Beavers' iteration in a workspace, and of the square root by its passes. Assumes nothing.
+use Rattle.std.specs.Prelude.{Ok}
 use Prim.Native.Nat.{ℕ}
 use native.Mathlib.Omega.{arith}
 use mathlib.Core.Path.{◌≡◌, refl, sym, ap, ◌∙◌}
@@ -15,15 +16,11 @@ use Rattle.arithmetic_matrices.specs.Norm.{norm_of_difference}
 use Rattle.arithmetic_matrices.specs.Workspace.{Room, slot, store, member, Only}
 use Rattle.arithmetic_questions.specs.Result.{Result, done, refused, ◌>>=◌, outcome, exit}
 use Rattle.arithmetic_questions.specs.Kernels.{Replaced}
-use Rattle.arithmetic_questions.specs.Answers.{reported}
+use Rattle.arithmetic_questions.specs.Answers.{Outcome, reported}
 use Rattle.arithmetic_questions.specs.Reports.{nothing, factored, beside}
-use Rattle.arithmetic_questions.specs.declared.answer.Outcome.{Outcome}
-use Rattle.arithmetic_questions.specs.declared.answer.Outcome.TheVariants.{Done}
 use Rattle.arithmetic_questions.specs.declared.answer.Report.{Report}
 use Rattle.arithmetic_matrices.proofs.Slots.{only_trans, only_more, only_store, slot_store}
 use Rattle.arithmetic_matrices.proofs.States.{start, step_mean, step_copy, step_call, step_identity, held_at, member_among}
-use Rattle.lu_factoring.specs.declared.LuOutcome.{LuOutcome}
-use Rattle.lu_factoring.specs.declared.LuOutcome.TheVariants.{Factored, Singular}
 use Rattle.lu_factoring.specs.Pivots.{smallest_pivot}
 use Rattle.lu_factoring.specs.Solve.{division, inverse, where_factored}
 use Rattle.functions_definitions.specs.Iterate.{after, verdict, ended}
@@ -32,6 +29,7 @@ use Rattle.functions_definitions.specs.Reports.{lu_report, iteration_report, pai
 use Rattle.functions_roots.specs.Kernels.{as_step, tested, answered, OnePass, Passes, SlotQuotient, pair_in, Means, SecondInverse}
 use Rattle.functions_roots.specs.declared.pass.Pass.{Pass}
 use Rattle.functions_roots.specs.declared.pass.Pass.TheVariants.{Failed}
+use Rattle.lu_factoring.specs.Lu.{LuOutcome, singular}
 use Rattle.functions_roots.proofs.PassLaws.{step_tested, answers_ended, fails_ended}
 
 -- the slots that a pass changes, and those that it changes once z is inverted
@@ -71,7 +69,7 @@ module _ (f : Format) (n : ℕ) (w₀ : List Float) (r : Room n w₀) where
         let s3 = step_call (2 ∷ 4 ∷ []) s2 Q.only (member_among (member later) (2 ∷ 4 ∷ []) refl) in
         (λ i. record { y = held_at 0 n s3 refl i; z = held_at 1 n s3 refl i }, held_at 3 n s3 refl, Q.result ∙ (λ i. division f n (held_at 2 n s2 refl i) (held_at 4 n s2 refl i)), s3.only, held_at 2 n s2 refl)
 
-    pub second_passed : (w4 : List Float) (p : Pass) → o ≡ Factored → Means f n p w3 w4 → SecondInverse f n p w₀ w4
+    pub second_passed : (w4 : List Float) (p : Pass) → o ≡ Ok tt → Means f n p w3 w4 → SecondInverse f n p w₀ w4
     second_passed w4 p eo M =
         let q : some (slot n w3 4) ≡ inverse f n (slot n w₀ 0) = ap (λ (z : LuOutcome). where_factored z (slot n w3 4)) (sym eo) ∙ second_solved.2 in
         record {
@@ -79,7 +77,7 @@ module _ (f : Format) (n : ℕ) (w₀ : List Float) (r : Room n w₀) where
           only = only_trans second_solved.3 (only_more (member_among (member later) (0 ∷ 1 ∷ 2 ∷ 5 ∷ []) refl) M.only);
         }
 
-    pub second_failed : (k : ℕ) → o ≡ Singular k → SecondInverse f n Failed w₀ w3
+    pub second_failed : (k : ℕ) → o ≡ singular k → SecondInverse f n Failed w₀ w3
     unfolding denman_beavers_next
     second_failed k eo =
         let q : none ≡ inverse f n (slot n w₀ 0) = ap (λ (z : LuOutcome). where_factored z (slot n w3 4)) (sym eo) ∙ second_solved.2 in
@@ -100,7 +98,7 @@ module _ (f : Format) (n : ℕ) (w₀ : List Float) (r : Room n w₀) where
         let s3 = step_call (2 ∷ 3 ∷ []) s2 Q.only (member_among (member used) (2 ∷ 3 ∷ []) refl) in
         (λ i. record { y = held_at 0 n s3 refl i; z = held_at 1 n s3 refl i }, Q.result ∙ (λ i. division f n (held_at 2 n s2 refl i) (held_at 3 n s2 refl i)), s3.only, held_at 2 n s2 refl)
 
-    pub root_passed : (w4 : List Float) (p : Pass) → o ≡ Factored → SecondInverse f n p w3 w4 → OnePass (denman_beavers_step f n) (pair_in n) used p w₀ w4
+    pub root_passed : (w4 : List Float) (p : Pass) → o ≡ Ok tt → SecondInverse f n p w3 w4 → OnePass (denman_beavers_step f n) (pair_in n) used p w₀ w4
     unfolding denman_beavers_step
     root_passed w4 p eo M =
         let q : some (slot n w3 3) ≡ inverse f n (slot n w₀ 1) = ap (λ (z : LuOutcome). where_factored z (slot n w3 3)) (sym eo) ∙ first_solved.1 in
@@ -109,7 +107,7 @@ module _ (f : Format) (n : ℕ) (w₀ : List Float) (r : Room n w₀) where
           only = only_trans first_solved.2 (only_more (member_among (member used) later refl) M.only);
         }
 
-    pub root_failed : (k : ℕ) → o ≡ Singular k → OnePass (denman_beavers_step f n) (pair_in n) used Failed w₀ w3
+    pub root_failed : (k : ℕ) → o ≡ singular k → OnePass (denman_beavers_step f n) (pair_in n) used Failed w₀ w3
     unfolding denman_beavers_step denman_beavers_next
     root_failed k eo =
         let q : none ≡ inverse f n (slot n w₀ 1) = ap (λ (z : LuOutcome). where_factored z (slot n w3 3)) (sym eo) ∙ first_solved.1 in
@@ -159,7 +157,7 @@ module _ (f : Format) (n : ℕ) (w₀ : List Float) (r : Room n w₀) where
     unfolding square_root
     ended_as q e = rw (ne_eqb n 1 two) (ap (λ (z : Result Pair). z >>= λ v. done 0 v.y) (e ∙ ap ended passes))
 
-    pub root_answers : answered p ≡ true → Replaced used n (square_root f n (slot n w₀ 0)) (Done 0) w₀ w2
+    pub root_answers : answered p ≡ true → Replaced used n (square_root f n (slot n w₀ 0)) (Ok 0) w₀ w2
     unfolding outcome exit ◌>>=◌
     root_answers e =
         let x : done 0 (slot n w2 0) ≡ square_root f n (slot n w₀ 0) = ended_as (done 0 (pair_in n w2)) (answers_ended p (pair_in n w2) e) in

@@ -3,7 +3,6 @@ use Rattle.std.specs.Prelude.{ℕ, ◌≤◌, ◌≡◌, Bool, true, false, List
 use Rattle.std.proofs.Math.Option.{some}
 use Rattle.std.specs.Float.{Format}
 use Rattle.arithmetic_matrices.specs.Workspace.{slot, member, Only}
-use Rattle.lu_factoring.specs.declared.LuOutcome.{LuOutcome}
 use Rattle.lu_factoring.specs.Solve.{division, inverse, where_factored}
 use Rattle.functions_definitions.specs.Iterate.{Step, running, stopped, failed, after}
 use Rattle.functions_definitions.specs.Roots.{pass_limit, newton_next, newton, Pair, denman_beavers_next}
@@ -12,6 +11,7 @@ use Rattle.functions_roots.specs.declared.pass.Pass.{Pass}
 use Rattle.functions_roots.specs.declared.pass.Passed.{Passed}
 use Rattle.functions_roots.specs.declared.pass.Pass.TheVariants.{Running, Stopped, Failed}
 use Rattle.arithmetic_questions.specs.declared.answer.Report.{Report}
+use Rattle.lu_factoring.specs.Lu.{LuOutcome}
 
 -- ---- the passes of an iteration
 

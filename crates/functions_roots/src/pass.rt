@@ -1,12 +1,11 @@
 // The passes of an iteration that stops early or fails.
 ghost use Rattle.std.specs.Prelude.{◌≡◌};
-ghost use Rattle.std.specs.Float.{binary64};
 ghost use Rattle.std.specs.Float.Ieee.{lt};
 ghost use Rattle.arithmetic_floats.specs.Root.{sqrt_of};
 ghost use Rattle.functions_definitions.specs.Roots.{root_tolerance};
 ghost use Rattle.functions_roots.specs.Kernels.{tested, answered};
 
-use arithmetic_floats::root::sqrt;
+use arithmetic_floats::real::Real;
 use arithmetic_questions::answer::Report;
 
 // What a pass makes of its iteration.
@@ -24,15 +23,15 @@ pub struct Passed {
     pub report: Report,
 }
 
-// A root's pass is the last where the Frobenius norm of the change, the root of `sum`, is below 100 * 2^-52.
-// Where the sum exceeds 2^-80 the root is 2^-40 at least, and is not worked out.
-pub fn root_verdict(sum: f64) -> Pass
-    ensures { result ≡ tested (lt (sqrt_of binary64 sum) (root_tolerance binary64)) }
+// A root's pass is the last where the Frobenius norm of the change, the root of `sum`, is below 100 times the distance from 1 to the next number.
+// Where the root is plainly larger it is not worked out.
+pub fn root_verdict<T: Real>(sum: T) -> Pass
+    ensures { result ≡ tested (lt (sqrt_of T.format (T.float sum)) (root_tolerance T.format)) }
 {
-    if sum > 8.271806125530277e-25 {
+    if sum.has_large_root() {
         return Pass::Running;
     }
-    if sqrt(sum) < 2.220446049250313e-16 * 100.0 {
+    if sum.sqrt() < T::EPSILON * T::of_small(100) {
         Pass::Stopped
     } else {
         Pass::Running

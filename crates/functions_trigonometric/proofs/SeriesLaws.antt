@@ -1,4 +1,5 @@
 -- Laws of a run of cosine and sine in a workspace: their sums, and the doublings. Assumes nothing.
+use Rattle.std.specs.Prelude.{Ok}
 use mathlib.Core.Path.{◌≡◌, refl, sym, ap, ◌∙◌}
 use mathlib.Core.List.{List, [], ◌∷◌}
 use Prim.Native.Nat.{ℕ, ◌+◌, ◌<◌}
@@ -13,7 +14,10 @@ use Rattle.arithmetic_matrices.proofs.MatrixLaws.{square_le}
 use Rattle.arithmetic_matrices.proofs.ProductLaws.{length-mul_m, length-times_m}
 use Rattle.arithmetic_matrices.proofs.Slots.{slot_store, room_kept, room_within, member_here, member_next, only_refl, only_trans, only_more, only_store, slot_kept}
 use Rattle.arithmetic_matrices.proofs.States.{start, held_at, step_mult, step_identity, step_deduct, step_accumulate, step_minus_identity, step_times, step_copy, step_call, member_among}
+use Rattle.arithmetic_questions.specs.Answers.{Question, found}
+use Rattle.arithmetic_questions.specs.Questions.{Call, asked, without_exponent, anywhere, orders_from_two, of_cosm}
 use Rattle.arithmetic_questions.proofs.OutputLaws.{Late}
+use Rattle.arithmetic_questions.proofs.QuestionLaws.{Shaped, accepted}
 use Rattle.functions_definitions.specs.Exponential.{scaled}
 use Rattle.functions_definitions.proofs.HalvingLaws.{halvings_late}
 use Rattle.functions_definitions.specs.Trigonometric.{one_over, cosine_to6, cosine_to8, cosine_beside, sine_to7, twice_product, double_cosine, double_sine, cosine_doubled, sine_doubled, cosine_at, sine_at, trigonometric_halvings, cos_m, sin_m}
@@ -211,3 +215,8 @@ cosine_late f n a = halvings_late (add f (norm1 f n a) one) (λ s. cosine_at f n
 pub sine_late : (f : Format) (n : ℕ) (a : List Float) → Late (sin_m f n a)
 unfolding sin_m trigonometric_halvings
 sine_late f n a = halvings_late (add f (norm1 f n a) one) (λ s. sine_at f n s a)
+
+-- ---- what the questions accept has the shape of a call
+
+pub shaped : (call : Call) (q : Question) → found q ≡ asked of_cosm call → q ≡ Ok tt → Shaped call
+shaped call q h e = (accepted without_exponent anywhere orders_from_two call q h e).shape

@@ -14,9 +14,7 @@ pub extern "C" fn kernel_norm(w: &[f64], n: usize) -> f64 {
 // The row of the pivot in column k of the matrix m of order 64; 0 where there is no such column or m has another length.
 #[unsafe(no_mangle)]
 pub extern "C" fn kernel_find_pivot(m: &[f64], k: usize) -> usize {
-    if k >= 64 {
-        0
-    } else if m.len() == 4096 {
+    if k < 64 && m.len() == 4096 {
         lu_factoring::factor::find_pivot(m, 64, k)
     } else {
         0

@@ -5,7 +5,7 @@
 #[unsafe(no_mangle)]
 pub extern "C" fn kernel_norm32(w: &[f32], n: usize) -> f32 {
     if n <= 16 && 8192 <= w.len() {
-        arithmetic_matrices32::norm::norm_1(w, 0, n)
+        arithmetic_matrices::norm::norm_1(w, 0, n)
     } else {
         0.0
     }
@@ -14,10 +14,8 @@ pub extern "C" fn kernel_norm32(w: &[f32], n: usize) -> f32 {
 // The row of the pivot in column k of the matrix m of order 64; 0 where there is no such column or m has another length.
 #[unsafe(no_mangle)]
 pub extern "C" fn kernel_find_pivot32(m: &[f32], k: usize) -> usize {
-    if k >= 64 {
-        0
-    } else if m.len() == 4096 {
-        lu_factoring32::factor::find_pivot(m, 64, k)
+    if k < 64 && m.len() == 4096 {
+        lu_factoring::factor::find_pivot(m, 64, k)
     } else {
         0
     }

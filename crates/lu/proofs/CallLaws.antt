@@ -1,4 +1,5 @@
 -- What the public calls of LU leave. Assumes nothing.
+use Rattle.std.specs.Prelude.{Ok, Err}
 use Prim.Native.Nat.{ℕ, ◌*◌, ◌≤◌}
 use native.Mathlib.Omega.{arith}
 use mathlib.Core.Path.{◌≡◌, refl, sym, ap, ◌∙◌}
@@ -10,11 +11,8 @@ use Rattle.arithmetic_matrices.specs.Kernels.{patch}
 use Rattle.arithmetic_matrices.specs.Matrix.{part, put}
 use Rattle.arithmetic_matrices.specs.Workspace.{store, cleared, Only}
 use Rattle.arithmetic_questions.specs.Result.{Result, outcome, exit, workspace}
-use Rattle.arithmetic_questions.specs.Answers.{numbered, reported, found}
+use Rattle.arithmetic_questions.specs.Answers.{Question, Outcome, numbered, reported, found}
 use Rattle.arithmetic_questions.specs.Questions.{asked, of_compute}
-use Rattle.arithmetic_questions.specs.declared.answer.Outcome.{Outcome}
-use Rattle.arithmetic_questions.specs.declared.answer.Question.{Question}
-use Rattle.arithmetic_questions.specs.declared.answer.Question.TheVariants.{Passed, No}
 use Rattle.arithmetic_questions.specs.declared.answer.Refusal.{Refusal}
 use Rattle.arithmetic_questions.specs.declared.answer.Report.{Report}
 use Rattle.arithmetic_questions.specs.Reports.{factored, report_at}
@@ -23,14 +21,12 @@ use Rattle.arithmetic_matrices.proofs.PartLaws.{part_all, part_put, put-put}
 use Rattle.arithmetic_matrices.proofs.Slots.{only_run, cleared_only}
 use Rattle.arithmetic_questions.proofs.AnswerLaws.{answer_passed, outcome_no, exit_no, workspace_no}
 use Rattle.arithmetic_questions.proofs.ReportLaws.{report_as}
-use Rattle.lu_factoring.specs.Lu.{lu_at, lu_pivot, lu_outcome, lu_factors, lu_pivots}
+use Rattle.lu_factoring.specs.Lu.{LuOutcome, singular, lu_at, lu_pivot, lu_outcome, lu_factors, lu_pivots}
 use Rattle.lu_factoring.specs.Kernels.{columns_done, diagonal_smallest, LuDoneIn}
 use Rattle.lu_factoring.specs.Pivots.{smallest_pivot}
 use Rattle.lu_factoring.specs.Solve.{stand_in}
 use Rattle.lu.specs.Calls.{Factorisation, factorised, compute, compute_call, Computed}
 use Rattle.lu.specs.Kernels.{lu_result, FactoredCopy, Computing}
-use Rattle.lu_factoring.specs.declared.LuOutcome.{LuOutcome}
-use Rattle.lu_factoring.specs.declared.LuOutcome.TheVariants.{Factored, Singular}
 use Rattle.lu_factoring.proofs.LuLaws.{length-lu_at}
 use Rattle.lu_factoring.proofs.PivotLaws.{smallest_read}
 
@@ -62,8 +58,8 @@ module _ (f : Format) (n : ℕ) (a w : List Float) (size : length a ≡ n * n) (
         rw d.factors (only_run (λ s. ltb s 32) w 0 16 (lu_at f n a (columns_done n r)) refl (omega arith))
 
     -- every column passes: the factors and the pivots are copied out
-    pub computing_all : (fs fs' : List Float) (ps ps' : List ℕ) → r ≡ Factored → length rows ≡ n → length fs ≡ n * n → fs' ≡ part w1 0 (length fs) → ps' ≡ rows1
-        → Computing f n a fs fs' ps ps' w w1 Factored
+    pub computing_all : (fs fs' : List Float) (ps ps' : List ℕ) → r ≡ Ok tt → length rows ≡ n → length fs ≡ n * n → fs' ≡ part w1 0 (length fs) → ps' ≡ rows1
+        → Computing f n a fs fs' ps ps' w w1 (Ok tt)
     unfolding lu_factors lu_pivots
     computing_all fs fs' ps ps' e l k u v =
         let s : length (lu_at f n a n) ≡ n * n = length-lu_at f n a n size in
@@ -75,21 +71,21 @@ module _ (f : Format) (n : ℕ) (a w : List Float) (size : length a ≡ n * n) (
         }
 
     -- a column does not pass: nothing is copied
-    pub computing_none : (fs : List Float) (ps : List ℕ) (k : ℕ) → r ≡ Singular k → Computing f n a fs fs ps ps w w1 (Singular k)
+    pub computing_none : (fs : List Float) (ps : List ℕ) (k : ℕ) → r ≡ singular k → Computing f n a fs fs ps ps w w1 (singular k)
     computing_none fs ps k e = record { outcome = sym e ∙ d.outcome; factors = refl; pivots = refl; only = within }
 
 -- ---- compute
 
 module _ (f : Format) (rows columns : ℕ) (a : List Float) (fs : List Float) (ps : List ℕ) (w : List Float) (q : Question)
-    (h : found q ≡ asked of_compute (compute_call rows columns a ps (length fs) (length w))) (o : Outcome) where
+    (out room : ℕ) (h : found q ≡ asked of_compute (compute_call rows columns a ps out room)) (o : Outcome) where
   whole : Result Factorisation
   whole = factorised (lu_outcome f rows a) (record { factors = lu_factors f rows a; pivot_rows = lu_pivots f rows a })
 
   -- a question refuses: all is as it was lent
-  pub compute_refused : (x : Refusal) → q ≡ No x → reported o ≡ numbered x → Computed (compute f rows columns a ps (length fs) (length w)) o fs fs ps ps w w
+  pub compute_refused : (x : Refusal) → q ≡ Err x → reported o ≡ numbered x → Computed (compute f rows columns a ps out room) o fs fs ps ps w w
   unfolding compute whole
   compute_refused x e k =
-      let c = compute_call rows columns a ps (length fs) (length w) in
+      let c = compute_call rows columns a ps out room in
       record {
         outcome = k ∙ sym (outcome_no of_compute c whole q h x e);
         factors = sym (exit_no of_compute c whole q h x e (λ (l : Factorisation). l.factors) fs);
@@ -98,33 +94,33 @@ module _ (f : Format) (rows columns : ℕ) (a : List Float) (fs : List Float) (p
       }
 
   -- none does: LU decides
-  pub compute_done : (fs' : List Float) (ps' : List ℕ) (w1 w2 : List Float) (r : LuOutcome) → q ≡ Passed → 8192 ≤ length w → Computing f rows a fs fs' ps ps' w w1 r
-      → w2 ≡ cleared w1 → reported o ≡ lu_result r → Computed (compute f rows columns a ps (length fs) (length w)) o fs fs' ps ps' w w2
+  pub compute_done : (fs' : List Float) (ps' : List ℕ) (w1 w2 : List Float) (r : LuOutcome) → q ≡ Ok tt → 8192 ≤ length w → Computing f rows a fs fs' ps ps' w w1 r
+      → w2 ≡ cleared w1 → reported o ≡ lu_result r → Computed (compute f rows columns a ps out room) o fs fs' ps ps' w w2
   unfolding compute whole outcome exit workspace
-  compute_done fs' ps' w1 w2 r e room d v k =
-      let c = compute_call rows columns a ps (length fs) (length w) in
+  compute_done fs' ps' w1 w2 r e enough d v k =
+      let c = compute_call rows columns a ps out room in
       rw (answer_passed of_compute c whole q h e)
       (go (lu_outcome f rows a) (d.factors ∙ ap (λ (z : LuOutcome). stand_in z (lu_factors f rows a) fs) d.outcome) (d.pivots ∙ ap (λ (z : LuOutcome). stand_in z (lu_pivots f rows a) ps) d.outcome) (k ∙ ap lu_result d.outcome))
     where
       clear : w2 ≡ cleared w
-      clear = v ∙ cleared_only w w1 room d.only
+      clear = v ∙ cleared_only w w1 enough d.only
 
       go : (z : LuOutcome) → fs' ≡ stand_in z (lu_factors f rows a) fs → ps' ≡ stand_in z (lu_pivots f rows a) ps → reported o ≡ lu_result z
           → Computed (factorised z (record { factors = lu_factors f rows a; pivot_rows = lu_pivots f rows a })) o fs fs' ps ps' w w2
-      go Factored p s t = record { outcome = t; factors = p; pivots = s; workspace = clear }
-      go (Singular j) p s t = record { outcome = t; factors = p; pivots = s; workspace = clear }
+      go (Ok _) p s t = record { outcome = t; factors = p; pivots = s; workspace = clear }
+      go (Err bad) p s t = record { outcome = t; factors = p; pivots = s; workspace = clear }
 
   -- the report: the smallest pivot, which the code reads off the factors that were written
   pub compute_report : (fs' : List Float) (ps' : List ℕ) (w1 : List Float) (r : LuOutcome) (ρ : Report) → length a ≡ rows * rows → Computing f rows a fs fs' ps ps' w w1 r
-      → reported o ≡ outcome (compute f rows columns a ps (length fs) (length w)) → reported o ≡ lu_result r
-      → ρ ≡ report_at (lu_result r) (factored (diagonal_smallest rows (part fs' 0 (rows * rows)))) → ρ ≡ report_at (compute f rows columns a ps (length fs) (length w)) (factored (smallest_pivot f rows a))
+      → reported o ≡ outcome (compute f rows columns a ps out room) → reported o ≡ lu_result r
+      → ρ ≡ report_at (lu_result r) (factored (diagonal_smallest rows (part fs' 0 (rows * rows)))) → ρ ≡ report_at (compute f rows columns a ps out room) (factored (smallest_pivot f rows a))
   unfolding report_at exit lu_factors
   compute_report fs' ps' w1 r ρ size d h k e =
-      e ∙ go r d.outcome d.factors ∙ ap (λ (z : Result (Unit {0})). report_at z (factored (smallest_pivot f rows a))) (sym k) ∙ report_as (compute f rows columns a ps (length fs) (length w)) (factored (smallest_pivot f rows a)) o h
+      e ∙ go r d.outcome d.factors ∙ ap (λ (z : Result (Unit {0})). report_at z (factored (smallest_pivot f rows a))) (sym k) ∙ report_as (compute f rows columns a ps out room) (factored (smallest_pivot f rows a)) o h
     where
       go : (z : LuOutcome) → z ≡ lu_outcome f rows a → fs' ≡ stand_in z (lu_factors f rows a) fs
           → report_at (lu_result z) (factored (diagonal_smallest rows (part fs' 0 (rows * rows)))) ≡ report_at (lu_result z) (factored (smallest_pivot f rows a))
-      go Factored p s =
+      go (Ok _) p s =
           let whole = part_all (lu_factors f rows a) (rows * rows) (length-lu_at f rows a rows size) in
           ap factored (ap (λ (l : List Float). diagonal_smallest rows (part l 0 (rows * rows))) s ∙ ap (diagonal_smallest rows) whole ∙ smallest_read f rows a (sym p))
-      go (Singular j) p s = refl
+      go (Err bad) p s = refl

@@ -1,4 +1,5 @@
 -- Laws of the questions that the calls of LU ask. Assumes nothing.
+use Rattle.std.specs.Prelude.{Ok}
 use Prim.Native.Nat.{ℕ, zero, suc, ◌+◌, ◌*◌, ◌≤◌, ◌<◌}
 use mathlib.Core.Path.{◌≡◌, refl, ◌∙◌}
 use mathlib.Core.Bool.{Bool, true, false, false≢true, cond, ◌&&◌}
@@ -13,9 +14,7 @@ use borrow.Author.Tests.{leb-true, ltb-true, eqb-true}
 use lib.Ieee.{Float}
 use Rattle.arithmetic_questions.specs.Result.{Found, refused, ◌>>=◌, passes, ask, first_no}
 use Rattle.arithmetic_questions.specs.Questions.{at_most, exactly, at_least8192, pivots_from, shape_questions, number_questions, asked, of_compute, of_solve, of_determinant}
-use Rattle.arithmetic_questions.specs.Answers.{found}
-use Rattle.arithmetic_questions.specs.declared.answer.Question.{Question}
-use Rattle.arithmetic_questions.specs.declared.answer.Question.TheVariants.{Passed}
+use Rattle.arithmetic_questions.specs.Answers.{Question, found}
 use Rattle.arithmetic_questions.proofs.QuestionLaws.{told, Yes, Each, all_yes, ask_yes, at_most_yes, exactly_yes}
 use Rattle.lu.specs.Calls.{compute_call, solve_call, determinant_call}
 
@@ -156,7 +155,7 @@ module _ (rows columns : ℕ) (a : List Float) (ps : List ℕ) where
   determined : System rows columns a ps → Yes (pivots_from rows 0 ps) → Determined rows columns a ps
   determined s y = record { system = s; named = λ k h. pivots_yes rows 0 ps y k (rw s.pivots h) }
 
-  module _ (q : Question) (e : q ≡ Passed) where
+  module _ (q : Question) (e : q ≡ Ok tt) where
     pub compute_passed : (out w : ℕ) → found q ≡ asked of_compute (compute_call rows columns a ps out w) → Computable rows columns a ps out w
     compute_passed out w h =
         let y = all_yes (told q (h ∙ compute_asked rows columns a ps out w)) e in

@@ -1,14 +1,11 @@
 -- What each public call of LU gives, as a function of all that it is given. Definitions only.
-use Rattle.std.specs.Prelude.{ℕ, ◌≡◌, List, [], ◌∷◌, Float}
+use Rattle.std.specs.Prelude.{ℕ, ◌≡◌, List, [], ◌∷◌, Float, Ok, Err}
 use Rattle.std.specs.Float.{Format}
 use Rattle.arithmetic_questions.specs.Result.{Result, refused, done, exit, outcome as outcome_of, workspace as workspace_of}
-use Rattle.arithmetic_questions.specs.Answers.{reported}
-use Rattle.arithmetic_questions.specs.declared.answer.Outcome.{Outcome}
+use Rattle.arithmetic_questions.specs.Answers.{Outcome, reported}
 use Rattle.arithmetic_questions.specs.Questions.{Call, call_of, no_matrix, no_exponent, no_room, answer, of_compute, of_solve, of_determinant}
-use Rattle.lu_factoring.specs.Lu.{lu_outcome, lu_factors, lu_pivots}
+use Rattle.lu_factoring.specs.Lu.{LuOutcome, lu_outcome, lu_factors, lu_pivots}
 use Rattle.lu_factoring.specs.Solve.{solved_matrix, determinant_of}
-use Rattle.lu_factoring.specs.declared.LuOutcome.{LuOutcome}
-use Rattle.lu_factoring.specs.declared.LuOutcome.TheVariants.{Factored, Singular}
 
 -- the outputs of `compute`
 pub record Factorisation : Type 0 where
@@ -17,8 +14,8 @@ pub record Factorisation : Type 0 where
 
 -- question 14: every column passes the pivot test
 abbrev pub factorised : LuOutcome → Factorisation → Result Factorisation
-factorised Factored l = done 0 l
-factorised (Singular k) l = refused 14 k 0
+factorised (Ok _) l = done 0 l
+factorised (Err bad) l = refused 14 bad.column 0
 
 -- `compute` is given rows, columns, the matrix, the lent pivots, the lengths of the lent factors and of the workspace
 abbrev pub compute_call : ℕ → ℕ → List Float → List ℕ → ℕ → ℕ → Call

@@ -1,15 +1,13 @@
 -- A copy of a matrix factored in a workspace. Only the contracts of kernels cite it. Definitions only.
-use Rattle.std.specs.Prelude.{ℕ, ◌≡◌, List, ltb, Float}
+use Rattle.std.specs.Prelude.{ℕ, ◌≡◌, List, ltb, Float, Ok, Err}
 use Rattle.std.specs.Float.{Format}
 use Rattle.arithmetic_questions.specs.Result.{Result, refused, done}
 use Rattle.arithmetic_matrices.specs.Workspace.{Only}
 use Rattle.arithmetic_matrices.specs.Kernels.{patch}
 use Rattle.arithmetic_matrices.specs.Matrix.{put}
-use Rattle.lu_factoring.specs.Lu.{lu_at, lu_pivot, lu_outcome, lu_factors, lu_pivots}
+use Rattle.lu_factoring.specs.Lu.{LuOutcome, lu_at, lu_pivot, lu_outcome, lu_factors, lu_pivots}
 use Rattle.lu_factoring.specs.Kernels.{columns_done}
 use Rattle.lu_factoring.specs.Solve.{stand_in}
-use Rattle.lu_factoring.specs.declared.LuOutcome.{LuOutcome}
-use Rattle.lu_factoring.specs.declared.LuOutcome.TheVariants.{Factored, Singular}
 
 -- r is the outcome for the n by n matrix a; w' and ps' are the workspace and the pivots after it
 pub record FactoredCopy (f : Format) (n : ℕ) (a w : List Float) (ps : List ℕ) (w' : List Float) (ps' : List ℕ) (r : LuOutcome) : Type 0 where
@@ -26,5 +24,5 @@ pub record Computing (f : Format) (n : ℕ) (a fs fs' : List Float) (ps ps' : Li
 
 -- what `compute` gives for an outcome, without its outputs
 abbrev pub lu_result : LuOutcome → Result (Unit {0})
-lu_result Factored = done 0 tt
-lu_result (Singular k) = refused 14 k 0
+lu_result (Ok _) = done 0 tt
+lu_result (Err bad) = refused 14 bad.column 0

@@ -9,12 +9,11 @@ ghost use Rattle.lu_factoring.specs.Kernels.{diagonal_smallest};
 ghost use Rattle.lu.specs.Kernels.{lu_result};
 ghost use Rattle.lu.specs.Calls.{compute_call, solve_call, determinant_call};
 
-use arithmetic_questions::answer::{Answer, Outcome, Question, Refusal, refused};
-use arithmetic_questions::question::{
-    ask, ask_at_most, ask_length, ask_room, ask_square, first_no,
-};
+use arithmetic_floats::real::Real;
+use arithmetic_questions::answer::{Answer, Refusal, refused};
+use arithmetic_questions::question::{ask, ask_at_most, ask_length, ask_room, ask_square};
 use arithmetic_questions::report::factored;
-use lu_factoring::LuOutcome;
+use lu_factoring::Singular;
 use lu_factoring::pivots::smallest_pivot;
 
 // Is p, which is pivot k, a row from k to n - 1?
@@ -28,48 +27,43 @@ pub fn names_row(k: usize, p: usize, n: usize) -> bool
 }
 
 // 9: does each pivot k name a row from k to n - 1?
-pub fn ask_pivots(pivots: &[usize], n: usize) -> Question
+pub fn ask_pivots(pivots: &[usize], n: usize) -> Result<(), Refusal>
     ensures { found result ≡ pivots_from n 0 pivots.now }
 {
-    let mut k = 0;
-    while k < pivots.len() {
+    for k in 0..pivots.len() {
         let p = pivots[k];
         if !names_row(k, p, n) {
-            return Question::No(Refusal::PivotOutOfRange(k, p));
+            return Err(Refusal::PivotOutOfRange(k, p));
         }
-        k += 1;
     }
-    Question::Passed
+    Ok(())
 }
 
 // 2 and 4, for a matrix alone.
-pub fn ask_order(rows: usize, columns: usize) -> Question
+pub fn ask_order(rows: usize, columns: usize) -> Result<(), Refusal>
     ensures { found result ≡ first_no (ask_of (eqb rows columns) 2 rows columns ∷ at_most 64 rows ∷ []) }
 {
-    first_no(ask_square(rows, columns), ask_at_most(rows, 64))
+    ask_square(rows, columns)?;
+    ask_at_most(rows, 64)
 }
 
 // 2, 4 and 5, for a matrix and pivots of so many numbers.
-pub fn ask_system(rows: usize, columns: usize, entries: usize, pivots: usize) -> Question
+pub fn ask_system(rows: usize, columns: usize, entries: usize, pivots: usize) -> Result<(), Refusal>
     ensures { found result ≡ first_no (ask_of (eqb rows columns) 2 rows columns ∷ at_most 64 rows ∷ exactly (rows * columns) entries ∷ exactly rows pivots ∷ []) }
 {
-    let order = ask_order(rows, columns);
-    let Question::Passed = order else {
-        return order;
-    };
-    first_no(
-        ask_length(entries, rows * columns),
-        ask_length(pivots, rows),
-    )
+    ask_order(rows, columns)?;
+    ask_length(entries, rows * columns)?;
+    ask_length(pivots, rows)
 }
 
 // 2 to 4, for a matrix and a right-hand side of `height` rows and `width` columns.
-pub fn ask_sides(rows: usize, columns: usize, height: usize, width: usize) -> Question
+pub fn ask_sides(rows: usize, columns: usize, height: usize, width: usize) -> Result<(), Refusal>
     ensures { found result ≡ first_no (ask_of (eqb rows columns) 2 rows columns ∷ ask_of (eqb height rows) 3 height width ∷ at_most 64 rows ∷ at_most 64 width ∷ []) }
 {
-    let fits = ask(height == rows, Refusal::CompanionShape(height, width));
-    let limits = first_no(ask_at_most(rows, 64), ask_at_most(width, 64));
-    first_no(first_no(ask_square(rows, columns), fits), limits)
+    ask_square(rows, columns)?;
+    ask(height == rows, Refusal::CompanionShape(height, width))?;
+    ask_at_most(rows, 64)?;
+    ask_at_most(width, 64)
 }
 
 // 2 to 5, for factors, pivots, a right-hand side and a solution of so many numbers.
@@ -82,63 +76,60 @@ pub fn ask_shapes(
     width: usize,
     right: usize,
     out: usize,
-) -> Question
+) -> Result<(), Refusal>
     ensures { found result ≡ first_no (ask_of (eqb rows columns) 2 rows columns ∷ ask_of (eqb height rows) 3 height width ∷ at_most 64 rows ∷ at_most 64 width ∷ exactly (rows * columns) entries ∷ exactly (height * width) right ∷ exactly rows pivots ∷ exactly (rows * width) out ∷ []) }
 {
-    let sides = ask_sides(rows, columns, height, width);
-    let Question::Passed = sides else {
-        return sides;
-    };
-    let matrix = ask_length(entries, rows * columns);
-    let inputs = first_no(matrix, ask_length(right, height * width));
-    let rest = first_no(ask_length(pivots, rows), ask_length(out, rows * width));
-    first_no(inputs, rest)
+    ask_sides(rows, columns, height, width)?;
+    ask_length(entries, rows * columns)?;
+    ask_length(right, height * width)?;
+    ask_length(pivots, rows)?;
+    ask_length(out, rows * width)
 }
 
 // ---- all that a call asks before it begins
 
 // Of compute: `factors` and `room` are the lengths of the lent factors and of the workspace.
-pub fn ask_compute(
+pub fn ask_compute<T: Real>(
     rows: usize,
     columns: usize,
-    a: &[f64],
+    a: &[T],
     pivots: &[usize],
     factors: usize,
     room: usize,
-) -> Question
-    ensures { found result ≡ asked of_compute (compute_call rows columns a.now pivots.now factors room) }
+) -> Result<(), Refusal>
+    ensures { found result ≡ asked of_compute (compute_call rows columns (T.floats a.now) pivots.now factors room) }
 {
-    let system = ask_system(rows, columns, a.len(), pivots.len());
-    let Question::Passed = system else {
-        return system;
-    };
-    first_no(ask_length(factors, rows * columns), ask_room(room))
+    ask_system(rows, columns, a.len(), pivots.len())?;
+    ask_length(factors, rows * columns)?;
+    ask_room(room)
 }
 
-pub fn ask_determinant(rows: usize, columns: usize, f: &[f64], pivots: &[usize]) -> Question
-    ensures { found result ≡ asked of_determinant (determinant_call rows columns f.now pivots.now) }
+pub fn ask_determinant<T: Real>(
+    rows: usize,
+    columns: usize,
+    f: &[T],
+    pivots: &[usize],
+) -> Result<(), Refusal>
+    ensures { found result ≡ asked of_determinant (determinant_call rows columns (T.floats f.now) pivots.now) }
 {
-    let system = ask_system(rows, columns, f.len(), pivots.len());
-    let Question::Passed = system else {
-        return system;
-    };
+    ask_system(rows, columns, f.len(), pivots.len())?;
     ask_pivots(pivots, rows)
 }
 
 // Of solve: `out` is the length of the lent solution.
-pub fn ask_solve(
+pub fn ask_solve<T: Real>(
     rows: usize,
     columns: usize,
-    f: &[f64],
+    f: &[T],
     pivots: &[usize],
     height: usize,
     width: usize,
-    b: &[f64],
+    b: &[T],
     out: usize,
-) -> Question
-    ensures { found result ≡ asked of_solve (solve_call rows columns f.now pivots.now height width b.now out) }
+) -> Result<(), Refusal>
+    ensures { found result ≡ asked of_solve (solve_call rows columns (T.floats f.now) pivots.now height width (T.floats b.now) out) }
 {
-    let shapes = ask_shapes(
+    ask_shapes(
         rows,
         columns,
         f.len(),
@@ -147,24 +138,22 @@ pub fn ask_solve(
         width,
         b.len(),
         out,
-    );
-    let Question::Passed = shapes else {
-        return shapes;
-    };
+    )?;
     ask_pivots(pivots, rows)
 }
 
+// There is no From<Singular> for Refusal, for which ? asks: no crate of the two types may cite the other.
 // Question 14: done, with the smallest pivot of the factors of order n, or refused by the column that did not pass.
-pub fn answer_of(outcome: LuOutcome, factors: &[f64], n: usize) -> Answer
+pub fn answer_of<T: Real>(outcome: Result<(), Singular>, factors: &[T], n: usize) -> Answer
     requires { n * n ≤ length factors.now }
     ensures outcome_value { reported result.outcome ≡ lu_result outcome }
-    ensures report_value { result.report ≡ report_at (lu_result outcome) (factored_with (diagonal_smallest n (part factors.now 0 (n * n)))) }
+    ensures report_value { result.report ≡ report_at (lu_result outcome) (factored_with (diagonal_smallest n (part (T.floats factors.now) 0 (n * n)))) }
 {
     match outcome {
-        LuOutcome::Factored => Answer {
-            outcome: Outcome::Done { halvings: 0 },
+        Ok(()) => Answer {
+            outcome: Ok(0),
             report: factored(smallest_pivot(factors, 0, n)),
         },
-        LuOutcome::Singular(k) => refused(Refusal::SingularColumn(k)),
+        Err(no) => refused(Refusal::SingularColumn(no.column)),
     }
 }

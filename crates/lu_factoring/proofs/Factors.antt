@@ -1,5 +1,6 @@
 -- LU of a matrix of order N that has a matrix of order n for its upper left corner, and zeros below that: the first n columns choose the same
 -- pivots and do the same to the corner as LU of order n, and the later columns leave the corner alone. Assumes nothing.
+use Rattle.std.specs.Prelude.{Ok, Err}
 use mathlib.Core.Path.{◌≡◌, refl, sym, ap, ◌∙◌, subst}
 use mathlib.Core.List.{List}
 use mathlib.Core.Logic.{inl, inr}
@@ -19,11 +20,9 @@ use Rattle.arithmetic_floats.proofs.Order.{split}
 use Rattle.arithmetic_floats.proofs.Zero.{zero_of, Zero, mul_zero_left, sub_zeros}
 use Rattle.arithmetic_matrices.proofs.MatrixLaws.{at-grid}
 use Rattle.arithmetic_matrices.proofs.Corner.{Corner}
-use Rattle.lu_factoring.specs.Lu.{pivot_among, pivot_row, tolerance, pivot_refused, exchange, swap_rows, pivot_reciprocal, reduced, eliminated_entry, eliminated, lu_at, lu_pivot, lu_from, lu_outcome, lu_factors}
+use Rattle.lu_factoring.specs.Lu.{LuOutcome, singular, pivot_among, pivot_row, tolerance, pivot_refused, exchange, swap_rows, pivot_reciprocal, reduced, eliminated_entry, eliminated, lu_at, lu_pivot, lu_from, lu_outcome, lu_factors}
 use Rattle.lu_factoring.specs.Finite.{FiniteColumn, FiniteFactors}
 use Rattle.lu_factoring.proofs.LuLaws.{pivot_from, pivot_row_in, exchange_in, exchange_other}
-use Rattle.lu_factoring.specs.declared.LuOutcome.{LuOutcome}
-use Rattle.lu_factoring.specs.declared.LuOutcome.TheVariants.{Factored, Singular}
 
 -- ---- the pivot search
 zero_magnitude : (s : Bool) → magnitude (zero_of s) ≡ zero_of false
@@ -114,10 +113,10 @@ entry_zero f k i j x l d u X L m p = go (ltb k i) (ltb j k) (eqb j k) (nltb→le
 
 -- ---- every column passes
 abbrev is_factored : LuOutcome → Bool
-is_factored Factored = true
-is_factored (Singular k) = false
+is_factored (Ok _) = true
+is_factored (Err bad) = false
 
-pub from_get : (f : Format) (n : ℕ) (a : List Float) (d k : ℕ) → lu_from f n a d k ≡ Factored → (j : ℕ) → k ≤ j → j < k + d → pivot_refused f n (lu_at f n a j) j ≡ false
+pub from_get : (f : Format) (n : ℕ) (a : List Float) (d k : ℕ) → lu_from f n a d k ≡ Ok tt → (j : ℕ) → k ≤ j → j < k + d → pivot_refused f n (lu_at f n a j) j ≡ false
 unfolding lu_from
 from_get f n a zero k h j l u = absurd (none k j l u)
   where
@@ -128,16 +127,16 @@ from_get f n a (suc d) k h j l u = go (pivot_refused f n (lu_at f n a k) k) refl
     next : k < j → j < suc k + d
     next g = omega arith
 
-    go : (b : Bool) → pivot_refused f n (lu_at f n a k) k ≡ b → cond b (Singular k) (lu_from f n a d (suc k)) ≡ Factored
-        → (lu_from f n a d (suc k) ≡ Factored → (j : ℕ) → suc k ≤ j → j < suc k + d → pivot_refused f n (lu_at f n a j) j ≡ false) → pivot_refused f n (lu_at f n a j) j ≡ false
+    go : (b : Bool) → pivot_refused f n (lu_at f n a k) k ≡ b → cond b (singular k) (lu_from f n a d (suc k)) ≡ Ok tt
+        → (lu_from f n a d (suc k) ≡ Ok tt → (j : ℕ) → suc k ≤ j → j < suc k + d → pivot_refused f n (lu_at f n a j) j ≡ false) → pivot_refused f n (lu_at f n a j) j ≡ false
     go true e g ih = absurd (true≢false (sym (ap is_factored g)))
     go false e g ih = elim (split k j) [ inl p ↦ ih g j p (next p) | inr p ↦ subst (λ (x : ℕ). pivot_refused f n (lu_at f n a x) x ≡ false) (omega arith) e ]
 
-pub from_make : (f : Format) (n : ℕ) (a : List Float) (d k : ℕ) → ((j : ℕ) → k ≤ j → j < k + d → pivot_refused f n (lu_at f n a j) j ≡ false) → lu_from f n a d k ≡ Factored
+pub from_make : (f : Format) (n : ℕ) (a : List Float) (d k : ℕ) → ((j : ℕ) → k ≤ j → j < k + d → pivot_refused f n (lu_at f n a j) j ≡ false) → lu_from f n a d k ≡ Ok tt
 unfolding lu_from
 from_make f n a zero k h = refl
 from_make f n a (suc d) k h =
-    ap (λ (b : Bool). cond b (Singular k) (lu_from f n a d (suc k))) (h k (le_refl k) (first d))
+    ap (λ (b : Bool). cond b (singular k) (lu_from f n a d (suc k))) (h k (le_refl k) (first d))
     ∙ from_make f n a d (suc k) (λ j l u. h j (le_trans (le-suc k) l) (wider j u))
   where
     first : (d : ℕ) → k < k + suc d
@@ -255,7 +254,7 @@ module _ (f : Format) (n N : ℕ) (n≤N : n ≤ N) where
           let t' : le (magnitude x) (tolerance f N) ≡ false = subst (λ (y : Float). le (magnitude y) (tolerance f N) ≡ false) e t in
           is_false (le (magnitude x) (tolerance f n)) (not_T (le (magnitude x) (tolerance f n)) (λ u. subst T t' (tol x u)))
 
-      pub outcome_corner : lu_outcome f N A ≡ Factored → lu_outcome f n a ≡ Factored
+      pub outcome_corner : lu_outcome f N A ≡ Ok tt → lu_outcome f n a ≡ Ok tt
       unfolding lu_outcome
       outcome_corner t = from_make f n a n zero (λ k l u. passes_early k (within k u) (from_get f N A N zero t k l (beyond k u)))
         where

@@ -1,5 +1,6 @@
 -- Laws of the definitions of LU factoring (Lu.antt), over the format.
 -- Assumes nothing.
+use Rattle.std.specs.Prelude.{Ok}
 use Prim.Native.Nat.{ℕ, zero, suc, ◌+◌, ◌-◌, ◌*◌, ◌≤◌, ◌<◌}
 use mathlib.Core.Path.{◌≡◌, refl, sym, ap, ◌∙◌}
 use mathlib.Core.Bool.{Bool, true, false, cond}
@@ -19,10 +20,8 @@ use Rattle.arithmetic_floats.proofs.Order.{split, same_or_not}
 use Rattle.arithmetic_matrices.proofs.MatrixLaws.{get_or-tab, index_lt, length-grid, at_set_same, at_set_other}
 use Rattle.arithmetic_matrices.proofs.PatchLaws.{patch_is, patch_more, patch_in, patch_below, patch_above, length-patch, row_none, row_more, row_skip, row_right, row_above, rows_none, rows_skip, rows_more, rows_all, rows_new, rows_old}
 use Rattle.arithmetic_matrices.proofs.PartLaws.{lent, returned, length_part}
-use Rattle.lu_factoring.specs.Lu.{pivot_among, exchange, swap_rows, pivot_reciprocal, reduced, eliminated_entry, eliminated, tolerance, pivot_refused, pivot_row, lu_at, lu_pivot, lu_from, lu_outcome, lu_pivots}
+use Rattle.lu_factoring.specs.Lu.{LuOutcome, singular, pivot_among, exchange, swap_rows, pivot_reciprocal, reduced, eliminated_entry, eliminated, tolerance, pivot_refused, pivot_row, lu_at, lu_pivot, lu_from, lu_outcome, lu_pivots}
 use Rattle.lu_factoring.specs.Kernels.{subtracted, columns_done, LuDone, LuDoneIn}
-use Rattle.lu_factoring.specs.declared.LuOutcome.{LuOutcome}
-use Rattle.lu_factoring.specs.declared.LuOutcome.TheVariants.{Factored, Singular}
 use native.Mathlib.Numerals.{add-one}
 
 -- ---- the pivot's search
@@ -188,13 +187,13 @@ module _ (f : Format) (n : ℕ) (a : List Float) where
       let d : n - k ≡ suc (n - (k + 1)) = omega arith in
       e ∙ rw (d, add-one) (rw t refl)
 
-  pub refuse : (k : ℕ) → k < n → pivot_refused f n (lu_at f n a k) k ≡ true → lu_outcome f n a ≡ lu_from f n a (n - k) k → Singular k ≡ lu_outcome f n a
+  pub refuse : (k : ℕ) → k < n → pivot_refused f n (lu_at f n a k) k ≡ true → lu_outcome f n a ≡ lu_from f n a (n - k) k → singular k ≡ lu_outcome f n a
   unfolding lu_from
   refuse k h t e =
       let d : n - k ≡ suc (n - (k + 1)) = omega arith in
       sym (e ∙ rw d (rw t refl))
 
-  pub finish : (k : ℕ) → n ≤ k → lu_outcome f n a ≡ lu_from f n a (n - k) k → Factored ≡ lu_outcome f n a
+  pub finish : (k : ℕ) → n ≤ k → lu_outcome f n a ≡ lu_from f n a (n - k) k → Ok tt ≡ lu_outcome f n a
   unfolding lu_from
   finish k h e =
       let d : n - k ≡ 0 = omega arith in

@@ -1,4 +1,5 @@
 -- What the loops of LU factoring keep, over the format, as records, each with its laws: start, one turn, end. Assumes nothing.
+use Rattle.std.specs.Prelude.{Ok}
 use Prim.Native.Nat.{ℕ, suc, ◌+◌, ◌-◌, ◌*◌, ◌<◌, ◌≤◌}
 use native.Mathlib.Omega.{arith}
 use mathlib.Core.Path.{◌≡◌, refl, sym, ◌∙◌, ap, ap₂}
@@ -10,9 +11,8 @@ use Rattle.arithmetic_floats.specs.Float.{magnitude}
 use Rattle.arithmetic_matrices.specs.Matrix.{at}
 use Rattle.arithmetic_matrices.specs.Kernels.{patch, row_to, rows_to, with_row}
 use Rattle.arithmetic_matrices.proofs.PatchLaws.{patch_none, length-rows_to}
-use Rattle.lu_factoring.specs.Lu.{pivot_among, pivot_row, swap_rows, pivot_reciprocal, reduced, eliminated_entry, eliminated, tolerance, lu_at, lu_pivot, lu_from, lu_outcome}
+use Rattle.lu_factoring.specs.Lu.{singular, pivot_among, pivot_row, swap_rows, pivot_reciprocal, reduced, eliminated_entry, eliminated, tolerance, lu_at, lu_pivot, lu_from, lu_outcome}
 use Rattle.lu_factoring.specs.Kernels.{subtracted, LuDone}
-use Rattle.lu_factoring.specs.declared.LuOutcome.TheVariants.{Factored, Singular}
 use Rattle.lu_factoring.proofs.LuLaws.{pivot_step, subtract_none, subtract_turn, eliminate_none, eliminate_turn, eliminate_all, length-eliminated, lu_turn, pivots_turn, refused_is, pass, refuse, finish}
 
 -- ---- the columns
@@ -36,7 +36,7 @@ columns_start f n a ps h l =
 -- p is the pivot's row, u its entry, v the entry's magnitude and t the tolerance
 module _ (f : Format) (n : ℕ) {a : List Float} {ps₀ : List ℕ} {m : List Float} {ps : List ℕ} {k : ℕ} (p : ℕ) (u v t : Float) (c : Columns f n a ps₀ m ps k)
     (h : k < n) (row : p ≡ pivot_row n m k) (entry : u ≡ at n m p k) (size : v ≡ magnitude u) (limit : t ≡ tolerance f n) where
-  pub columns_refused : le v t ≡ true → LuDone f n a ps₀ m ps (Singular k)
+  pub columns_refused : le v t ≡ true → LuDone f n a ps₀ m ps (singular k)
   columns_refused e = record {
     outcome = refuse f n a k h (refused_is f n a k p m u v t true c.matrix row entry size limit e) c.outcome;
     factors = c.matrix;
@@ -54,7 +54,7 @@ module _ (f : Format) (n : ℕ) {a : List Float} {ps₀ : List ℕ} {m : List Fl
     outcome = pass f n a k h (refused_is f n a k p m u v t false c.matrix row entry size limit e) c.outcome;
   }
 
-pub columns_end : (f : Format) (n : ℕ) {a : List Float} {ps₀ : List ℕ} {m : List Float} {ps : List ℕ} {k : ℕ} → Columns f n a ps₀ m ps k → n ≤ k → LuDone f n a ps₀ m ps Factored
+pub columns_end : (f : Format) (n : ℕ) {a : List Float} {ps₀ : List ℕ} {m : List Float} {ps : List ℕ} {k : ℕ} → Columns f n a ps₀ m ps k → n ≤ k → LuDone f n a ps₀ m ps (Ok tt)
 columns_end f n {a} {ps₀} {m} {ps} {k} c h =
     let e : k ≡ n = omega arith in
     record { outcome = finish f n a k h c.outcome; factors = rw e at c.matrix; pivots = rw e at c.pivots }

@@ -1,4 +1,5 @@
 -- The diagonal of LU's factors holds the pivots, so the code reads the smallest off the factors. Assumes nothing.
+use Rattle.std.specs.Prelude.{Ok}
 use Prim.Native.Nat.{ℕ, zero, suc, ◌+◌, ◌-◌, ◌*◌, ◌≤◌, ◌<◌}
 use native.Mathlib.Nat.{le_of_eq}
 use native.Mathlib.Omega.{arith}
@@ -16,9 +17,7 @@ use Rattle.arithmetic_matrices.specs.Matrix.{at, item, part, put, Apart}
 use Rattle.arithmetic_matrices.specs.Norm.{smallest}
 use Rattle.arithmetic_matrices.proofs.PartLaws.{length_part, at_part, part_put, part_put_apart}
 use Rattle.arithmetic_matrices.proofs.MatrixLaws.{at-grid, length-grid}
-use Rattle.lu_factoring.specs.Lu.{exchange, swap_rows, pivot_reciprocal, reduced, eliminated_entry, eliminated, pivot_row, lu_at, lu_pivot, lu_pivots, lu_factors, lu_outcome}
-use Rattle.lu_factoring.specs.declared.LuOutcome.TheVariants.{Factored, Singular}
-use Rattle.lu_factoring.specs.declared.LuOutcome.{LuOutcome}
+use Rattle.lu_factoring.specs.Lu.{LuOutcome, singular, exchange, swap_rows, pivot_reciprocal, reduced, eliminated_entry, eliminated, pivot_row, lu_at, lu_pivot, lu_pivots, lu_factors, lu_outcome}
 use Rattle.lu_factoring.specs.Solve.{stand_in, solved_matrix}
 use Rattle.lu_factoring.specs.Kernels.{divided, diagonal_smallest}
 use Rattle.lu_factoring.proofs.LuLaws.{exchange_first, exchange_other, pivot_row_in, length-lu_at}
@@ -70,7 +69,7 @@ smallest_cong (suc k) g h e =
     ap (λ (x : Float). smaller x (g k)) (smallest_cong k g h (λ i l. e i (omega arith))) ∙ ap (smaller (smallest k h)) (e k (omega arith))
 
 -- what the code finds on the diagonal of the factors
-pub smallest_read : (f : Format) (n : ℕ) (a : List Float) → lu_outcome f n a ≡ Factored → diagonal_smallest n (lu_factors f n a) ≡ smallest_pivot f n a
+pub smallest_read : (f : Format) (n : ℕ) (a : List Float) → lu_outcome f n a ≡ Ok tt → diagonal_smallest n (lu_factors f n a) ≡ smallest_pivot f n a
 unfolding diagonal_smallest smallest_pivot pivot_size
 smallest_read f n a o =
     smallest_cong n (λ k. magnitude (at n (lu_factors f n a) k k)) (pivot_size f n a) (λ k l. ap magnitude (pivot_on_diagonal f n k a l))
@@ -109,7 +108,7 @@ module _ {n : ℕ} {w : List Float} {off : ℕ} {least : Float} {k : ℕ} (s : S
 
 -- a division leaves the factors where the matrix stood
 left : (f : Format) (n m o x : ℕ) (w : List Float) → o + n * n ≤ length w → Apart o (n * n) x (n * m)
-    → part (divided f n m o x w Factored) o (n * n) ≡ lu_factors f n (part w o (n * n))
+    → part (divided f n m o x w (Ok tt)) o (n * n) ≡ lu_factors f n (part w o (n * n))
 unfolding divided lu_factors solved_matrix
 left f n m o x w h p =
     let a = part w o (n * n) in
@@ -118,13 +117,13 @@ left f n m o x w h p =
     part_put_apart (put w o F) x (n * m) S o (n * n) p (le_of_eq (length-grid n m _))
     ∙ part_put w o F (n * n) (length-lu_at f n a n (length_part w o (n * n))) h
 
-pub report_factored : (f : Format) (n m o x : ℕ) (w w' : List Float) (r : LuOutcome) (v : Float) → o + n * n ≤ length w → Apart o (n * n) x (n * m) → r ≡ Factored
+pub report_factored : (f : Format) (n m o x : ℕ) (w w' : List Float) (r : LuOutcome) (v : Float) → o + n * n ≤ length w → Apart o (n * n) x (n * m) → r ≡ Ok tt
     → r ≡ lu_outcome f n (part w o (n * n)) → w' ≡ divided f n m o x w r → v ≡ diagonal_smallest n (part w' o (n * n)) → v ≡ smallest_pivot f n (part w o (n * n))
 report_factored f n m o x w w' r v h p t e d s =
     s ∙ ap (λ (l : List Float). diagonal_smallest n (part l o (n * n))) (d ∙ ap (divided f n m o x w) t)
     ∙ ap (diagonal_smallest n) (left f n m o x w h p)
     ∙ smallest_read f n (part w o (n * n)) (sym e ∙ t)
 
-pub report_singular : (f : Format) (n k : ℕ) (a : List Float) (r : LuOutcome) → r ≡ Singular k → r ≡ lu_outcome f n a → +infinity ≡ smallest_pivot f n a
+pub report_singular : (f : Format) (n k : ℕ) (a : List Float) (r : LuOutcome) → r ≡ singular k → r ≡ lu_outcome f n a → +infinity ≡ smallest_pivot f n a
 unfolding smallest_pivot
 report_singular f n k a r t e = sym (ap (λ r. stand_in r (smallest n (pivot_size f n a)) +infinity) (sym e ∙ t))

@@ -92,6 +92,14 @@ swapped_turn {x} {y} {m} {w₀} {w} {j} s a h = record {
   list = swap_part_more w₀ x y m j w a h s.list;
 }
 
+-- the same turn over any numbers that are seen as floats
+pub seen_swapped : {A : Type 0} (float : A → Float) (floats : List A → List Float) {x y m : ℕ} {w₀ : List Float} (w : List A) {j : ℕ} (a b : A)
+    → ((l : List A) (i : ℕ) (v : A) → floats (set l i v) ≡ set (floats l) i (float v))
+    → Swapped x y m w₀ (floats w) j → Apart x m y m → j < m → float a ≡ item (floats w) (x + j) → float b ≡ item (floats w) (y + j)
+    → Swapped x y m w₀ (floats (set (set w (x + j) b) (y + j) a)) (j + 1)
+seen_swapped float floats {x} {y} w {j} a b law s apart h p q =
+    rw (law (set w (x + j) b) (y + j) a, law w (x + j) b, p, q) (swapped_turn s apart h)
+
 pub swapped_end : {x y m : ℕ} {w₀ w : List Float} {j : ℕ} → Swapped x y m w₀ w j → m ≤ j → w ≡ put (put w₀ x (part w₀ y m)) y (part w₀ x m)
 swapped_end {m = m} {j = j} s h = let e : j ≡ m = omega arith in rw e at s.list
 

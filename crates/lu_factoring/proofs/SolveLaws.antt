@@ -98,12 +98,9 @@ unfolding back_step
 length-back_step f n F k x = length-tab n _
 
 -- the loop counts k down: k columns are left, n - k are done
-pub back_turn : (f : Format) (n : ℕ) (F x₀ x x1 : List Float) (k : ℕ) → 0 < k → k ≤ n → x ≡ back f n F x₀ (n - k) → x1 ≡ back_step f n F (k - 1) x → x1 ≡ back f n F x₀ (n - (k - 1))
+pub back_turn : (f : Format) (n : ℕ) (F x₀ x x1 : List Float) (k : ℕ) → x ≡ back f n F x₀ k → x1 ≡ back_step f n F (n - (k + 1)) x → x1 ≡ back f n F x₀ (k + 1)
 unfolding back
-back_turn f n F x₀ x x1 k h hn e e1 =
-    let d : n - (k - 1) ≡ suc (n - k) = omega arith in
-    let c : n - suc (n - k) ≡ k - 1 = omega arith in
-    e1 ∙ rw (d, c, e)
+back_turn f n F x₀ x x1 k e e1 = e1 ∙ rw (e, add-one)
 
 pub length_back : (f : Format) (n : ℕ) (F x : List Float) (d : ℕ) → length x ≡ n → length (back f n F x d) ≡ n
 unfolding back

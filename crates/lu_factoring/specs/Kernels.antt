@@ -1,14 +1,12 @@
 -- What the code's steps of LU leave. Only the contracts of kernels cite it. Definitions only.
-use Rattle.std.specs.Prelude.{ℕ, ◌*◌, cond, List, leb, Float, ◌≡◌}
+use Rattle.std.specs.Prelude.{ℕ, ◌*◌, cond, List, leb, Float, ◌≡◌, Ok, Err}
 use Rattle.std.specs.Float.{Format}
 use Rattle.std.specs.Float.Ieee.{mul, sub}
 use Rattle.arithmetic_floats.specs.Float.{magnitude}
 use Rattle.arithmetic_matrices.specs.Matrix.{at, part, put, grid, item, column}
 use Rattle.arithmetic_matrices.specs.Norm.{smallest}
 use Rattle.arithmetic_matrices.specs.Kernels.{patch}
-use Rattle.lu_factoring.specs.declared.LuOutcome.{LuOutcome}
-use Rattle.lu_factoring.specs.declared.LuOutcome.TheVariants.{Factored, Singular}
-use Rattle.lu_factoring.specs.Lu.{lu_at, lu_pivot, lu_outcome, lu_factors, lu_pivots}
+use Rattle.lu_factoring.specs.Lu.{LuOutcome, lu_at, lu_pivot, lu_outcome, lu_factors, lu_pivots}
 use Rattle.lu_factoring.specs.Solve.{less_term, solved_matrix}
 
 -- row i less x times row k, to the right of column k
@@ -17,8 +15,8 @@ subtracted f n k i x a j = cond (leb j k) (at n a i j) (sub f (at n a i j) (mul 
 
 -- how many columns are done: all n, or those before the one that was refused
 abbrev pub columns_done : ℕ → LuOutcome → ℕ
-columns_done n Factored = n
-columns_done n (Singular k) = k
+columns_done n (Ok _) = n
+columns_done n (Err bad) = bad.column
 
 -- What factoring the n by n matrix a ends with: the outcome r, the matrix a' after the columns that passed, and their pivots in ps', a list whose other
 -- elements are those of ps.
@@ -45,10 +43,10 @@ each_column n m g b = grid n m (λ r c. item (g (column n m b c)) r)
 -- The workspace w after the matrix of order n at `left` is factored and, where all its columns pass, the right-hand matrix of m columns at `right` is
 -- solved. The last argument is the outcome.
 unfoldable pub divided : Format → ℕ → ℕ → ℕ → ℕ → List Float → LuOutcome → List Float
-divided f n m left right w Factored =
+divided f n m left right w (Ok _) =
     let a = part w left (n * n) in
     put (put w left (lu_factors f n a)) right (solved_matrix f n m (lu_factors f n a) (lu_pivots f n a) (part w right (n * m)))
-divided f n m left right w (Singular k) = put w left (lu_at f n (part w left (n * n)) k)
+divided f n m left right w (Err bad) = put w left (lu_at f n (part w left (n * n)) bad.column)
 
 -- the smallest pivot as the code reads it off the factors m, whose diagonal holds the pivots
 unfoldable pub diagonal_smallest : ℕ → List Float → Float

@@ -9,13 +9,12 @@
 --   - the last column, which has no row below it, is tested too and has a pivot; the book ends before it;
 --   - rows, columns and pivots count from 0;
 --   - order 0 is accepted: no column, no pivot. Assumes nothing.
-use Rattle.std.specs.Prelude.{ℕ, zero, suc, ◌+◌, ◌-◌, Bool, cond, List, pos, ltb, eqb, Float}
+use Rattle.std.specs.Prelude.{ℕ, zero, suc, ◌+◌, ◌-◌, Bool, cond, List, pos, ltb, eqb, Float, ⊤, Result, Ok, Err}
 use Rattle.std.specs.Float.{Format}
 use Rattle.std.specs.Float.Ieee.{mul, sub, div, lt, le, of_int}
 use Rattle.arithmetic_floats.specs.Float.{magnitude, one, epsilon}
 use Rattle.arithmetic_matrices.specs.Matrix.{tab, at, grid}
-use Rattle.lu_factoring.specs.declared.LuOutcome.{LuOutcome}
-use Rattle.lu_factoring.specs.declared.LuOutcome.TheVariants.{Factored, Singular}
+use Rattle.lu_factoring.specs.declared.Singular.{Singular}
 
 -- ---- one column
 
@@ -91,10 +90,17 @@ lu_at f n a (suc k) =
 unfoldable pub lu_pivot : Format → ℕ → List Float → ℕ → ℕ
 lu_pivot f n a k = pivot_row n (lu_at f n a k) k
 
+-- what factoring gives: each column passed, or column k was refused
+abbrev pub LuOutcome : Type 0
+LuOutcome = Result ⊤ Singular
+
+abbrev pub singular : ℕ → LuOutcome
+singular k = Err (record { column = k })
+
 -- The d columns from k on: the first that is refused, or all pass.
 unfoldable pub lu_from : Format → ℕ → List Float → ℕ → ℕ → LuOutcome
-lu_from f n a zero k = Factored
-lu_from f n a (suc d) k = cond (pivot_refused f n (lu_at f n a k) k) (Singular k) (lu_from f n a d (suc k))
+lu_from f n a zero k = Ok tt
+lu_from f n a (suc d) k = cond (pivot_refused f n (lu_at f n a k) k) (singular k) (lu_from f n a d (suc k))
 
 -- the outcome, the factors and the pivots of an n by n matrix a
 unfoldable pub lu_outcome : Format → ℕ → List Float → LuOutcome

@@ -3,16 +3,14 @@
 -- the column-oriented ones of Golub and Van Loan, Matrix Computations (4th edition, Algorithms 3.1.3 and 3.1.4): once an unknown is known, its terms
 -- are subtracted from the other rows. The determinant is negated where an odd number of pivots differ from their column; the product starts with the
 -- sign and takes the diagonal from row 0 down. Rows count from 0; order 0 is accepted, and its determinant is 1. Assumes nothing.
-use Rattle.std.specs.Prelude.{ℕ, zero, suc, ◌+◌, ◌-◌, ◌%◌, true, cond, List, ltb, eqb, get_or, pos, Float}
+use Rattle.std.specs.Prelude.{ℕ, zero, suc, ◌+◌, ◌-◌, ◌%◌, true, cond, List, ltb, eqb, get_or, pos, Float, Ok, Err}
 use Rattle.std.proofs.Math.Option.{Option, none, some}
 use Rattle.std.specs.Float.{fin, Format}
 use Rattle.std.specs.Float.Ieee.{mul, sub, div}
 use Rattle.arithmetic_floats.specs.Float.{one}
 use Rattle.arithmetic_matrices.specs.Matrix.{tab, at, grid, item, column}
 use Rattle.arithmetic_matrices.specs.Product.{identity_m}
-use Rattle.lu_factoring.specs.Lu.{exchange, lu_outcome, lu_factors, lu_pivots}
-use Rattle.lu_factoring.specs.declared.LuOutcome.{LuOutcome}
-use Rattle.lu_factoring.specs.declared.LuOutcome.TheVariants.{Factored, Singular}
+use Rattle.lu_factoring.specs.Lu.{LuOutcome, exchange, lu_outcome, lu_factors, lu_pivots}
 
 -- ---- the swaps, in their order
 
@@ -111,13 +109,13 @@ quotient f n a b = solved_matrix f n n (lu_factors f n a) (lu_pivots f n a) b
 
 -- the quotient q, or b in its place where LU refuses
 abbrev pub stand_in : {A : Type 0} → LuOutcome → A → A → A
-stand_in Factored q b = q
-stand_in (Singular k) q b = b
+stand_in (Ok _) q b = q
+stand_in (Err bad) q b = b
 
 -- where LU accepts the matrix
 abbrev pub where_factored : {A : Type 0} → LuOutcome → A → Option A
-where_factored Factored x = some x
-where_factored (Singular k) x = none
+where_factored (Ok _) x = some x
+where_factored (Err bad) x = none
 
 -- a x = b for a matrix b: nothing where LU refuses a
 unfoldable pub division : Format → ℕ → List Float → List Float → Option (List Float)

@@ -7,9 +7,8 @@ pub mod pivots;
 pub mod room;
 pub mod swap;
 
-// What factoring a matrix gives: its factors stand in its place, or the column that was refused.
+// The column that factoring a matrix refused.
 #[derive(Clone, Copy)]
-pub enum LuOutcome {
-    Factored,
-    Singular(usize),
+pub struct Singular {
+    pub column: usize,
 }

@@ -2,20 +2,21 @@
 ghost use Rattle.std.specs.Prelude.{◌≡◌, ◌≤◌, length, take};
 ghost use Rattle.lu_factoring.specs.Solve.{stand_in};
 
-use crate::LuOutcome;
+use crate::Singular;
+use arithmetic_floats::real::Real;
 
 // The first `count` numbers of the quotient, or of the numerator where LU refused the denominator.
-pub fn quotient_or_numerator<'a>(
-    quotient: &'a [f64],
-    numerator: &'a [f64],
+pub fn quotient_or_numerator<'a, T: Real>(
+    quotient: &'a [T],
+    numerator: &'a [T],
     count: usize,
-    outcome: LuOutcome,
-) -> &'a [f64]
+    outcome: Result<(), Singular>,
+) -> &'a [T]
     requires { (count ≤ length quotient.now) × (count ≤ length numerator.now) }
-    ensures { result.now ≡ take count (stand_in outcome quotient.now numerator.now) }
+    ensures { T.floats result.now ≡ take count (stand_in outcome (T.floats quotient.now) (T.floats numerator.now)) }
 {
     match outcome {
-        LuOutcome::Factored => &quotient[..count],
-        LuOutcome::Singular(_) => &numerator[..count],
+        Ok(()) => &quotient[..count],
+        Err(_) => &numerator[..count],
     }
 }

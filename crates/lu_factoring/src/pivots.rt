@@ -3,18 +3,17 @@ ghost use Rattle.std.specs.Prelude.{◌≡◌, ◌+◌, ◌*◌, ◌≤◌, leng
 ghost use Rattle.arithmetic_matrices.specs.Matrix.{part};
 ghost use Rattle.lu_factoring.specs.Kernels.{diagonal_smallest};
 
-use arithmetic_floats::float::{magnitude, smaller};
+use arithmetic_floats::compare::smaller;
+use arithmetic_floats::real::Real;
 
 // The smallest magnitude on the diagonal of the n by n matrix at off, which holds the factors of LU.
-pub fn smallest_pivot(w: &[f64], off: usize, n: usize) -> f64
+pub fn smallest_pivot<T: Real>(w: &[T], off: usize, n: usize) -> T
     requires { off + n * n ≤ length w.now }
-    ensures { result ≡ diagonal_smallest n (part w.now off (n * n)) }
+    ensures { T.float result ≡ diagonal_smallest n (part (T.floats w.now) off (n * n)) }
 {
-    let mut least = 1.0 / 0.0;
-    let mut k = 0;
-    while k < n {
-        least = smaller(least, magnitude(w[off + (k * n + k)]));
-        k += 1;
+    let mut least = T::INFINITY;
+    for k in 0..n {
+        least = smaller(least, w[off + (k * n + k)].magnitude());
     }
     least
 }

@@ -1,22 +1,22 @@
--- What the loops of the substitutions keep, over the format: the right-hand matrix x as records, each with its laws: start, one turn, end. x₀ is the
--- matrix before the loop, F the list of the factors. Assumes nothing.
+-- What the loops of the substitutions keep, each with its laws: start, one turn, end. x is the right-hand matrix and x₀ what it was before the loop, F the
+-- list of the factors. Assumes nothing.
 use Prim.Native.Nat.{ℕ, ◌+◌, ◌-◌, ◌*◌, ◌≤◌, ◌<◌}
-use mathlib.Core.Path.{◌≡◌, refl, sym, ap, ◌∙◌}
+use mathlib.Core.Path.{◌≡◌, refl, sym, ap, subst, ◌∙◌}
 use mathlib.Core.List.{List}
-use native.Mathlib.Nat.{zero-mul}
+use native.Mathlib.Nat.{zero-add, add_assoc}
 use native.Mathlib.Omega.{arith}
 use lib.ListN.{length, get_or}
 use lib.Ieee.{Float, nan, Format}
 use Rattle.arithmetic_matrices.specs.Matrix.{tab, at, item, part, put}
-use Rattle.arithmetic_matrices.proofs.MatrixLaws.{length-grid, more_rows}
+use Rattle.arithmetic_matrices.proofs.MatrixLaws.{length-grid}
 use Rattle.arithmetic_matrices.proofs.PatchLaws.{patch_none}
-use Rattle.arithmetic_matrices.proofs.PartLaws.{length-put, put_all, part_all}
+use Rattle.arithmetic_matrices.proofs.PartLaws.{put_all, part_all}
 use Rattle.lu_factoring.specs.Solve.{swap_items, permuted, forward, back, solved, solved_matrix}
 use Rattle.lu_factoring.specs.Kernels.{each_column}
 use Rattle.lu_factoring.proofs.SolveLaws.{permuted_more, length-permuted, length-forward}
 use Rattle.lu_factoring.proofs.RowLaws.{each_none, each_cong, each_turn}
 use Rattle.lu_systems.specs.Kernels.{lower_entry, upper_entry, row_at, column_at}
-use Rattle.lu_systems.proofs.ByRows.{forward_to, back_from, forward_all, back_all, forward_row, back_row, row_down}
+use Rattle.lu_systems.proofs.ByRows.{forward_to, back_from, forward_all, back_all, forward_row, back_row}
 
 -- ---- every column changed, the matrix being the whole list
 
@@ -25,7 +25,7 @@ unfolding each_column
 each_whole n m g x size =
     put_all x (each_column n m g (part x 0 (n * m))) (length-grid n m _ ∙ sym size) ∙ ap (each_column n m g) (part_all x (n * m) size)
 
-each_size : (n m : ℕ) (g : List Float → List Float) (x x1 : List Float) → x1 ≡ each_column n m g x → length x1 ≡ n * m
+pub each_size : (n m : ℕ) (g : List Float → List Float) (x x1 : List Float) → x1 ≡ each_column n m g x → length x1 ≡ n * m
 unfolding each_column
 each_size n m g x x1 e = ap length e ∙ length-grid n m _
 
@@ -57,126 +57,72 @@ steps_end {n = n} {k = k} s h = let e : k ≡ n = omega (arith, s.within) in rw 
 
 -- ---- the swaps
 
--- the first k swaps are done in each column
-pub record Permuted (n m : ℕ) (ps : List ℕ) (x₀ x : List Float) (k : ℕ) : Type 0 where
-  pub within : k ≤ n
-  pub lent : length x₀ ≡ n * m
-  pub size : length x ≡ n * m
-  pub list : x ≡ each_column n m (λ l. permuted n ps l k) x₀
+-- the first k are done in each column of x
+abbrev pub swapped : ℕ → ℕ → List ℕ → List Float → ℕ → List Float
+swapped n m ps x k = each_column n m (λ l. permuted n ps l k) x
 
-pub permuted_start : {n m : ℕ} {ps : List ℕ} {x₀ : List Float} → length x₀ ≡ n * m → Permuted n m ps x₀ x₀ 0
-unfolding permuted
-permuted_start {n} {m} {ps} {x₀} l =
-    record { within = omega arith; lent = l; size = l; list = each_start n m (λ a. permuted n ps a 0) x₀ l (λ a s. refl) }
+module _ (n m : ℕ) (ps : List ℕ) (x₀ : List Float) (size : length x₀ ≡ n * m) where
+  pub swapped_start : Steps (swapped n m ps x₀) n x₀ 0
+  unfolding permuted
+  swapped_start = steps_start (each_start n m (λ a. permuted n ps a 0) x₀ size (λ a s. refl))
 
-module _ {n m : ℕ} {ps : List ℕ} {x₀ x : List Float} {k : ℕ} (s : Permuted n m ps x₀ x k) where
-  pub permuted_turn : {x1 : List Float} → k < n → x1 ≡ put x 0 (each_column n m (swap_items n k (get_or ps k 0)) (part x 0 (n * m))) → Permuted n m ps x₀ x1 (k + 1)
-  permuted_turn {x1} h e =
-      let e1 : x1 ≡ each_column n m (swap_items n k (get_or ps k 0)) x = e ∙ each_whole n m (swap_items n k (get_or ps k 0)) x s.size in
-      record {
-        within = omega arith;
-        lent = s.lent;
-        size = each_size n m (swap_items n k (get_or ps k 0)) x x1 e1;
-        list =
-            each_then n m (λ l. permuted n ps l k) (swap_items n k (get_or ps k 0)) (λ l. permuted n ps l (k + 1)) x₀ x x1 s.lent (λ l d. length-permuted n ps l k d)
-            (λ l d. permuted_more n ps l k) s.list e1;
-      }
-
-  pub permuted_end : n ≤ k → x ≡ each_column n m (λ l. permuted n ps l n) x₀
-  permuted_end h = let e : k ≡ n = omega (arith, s.within) in rw e at s.list
+  pub swapped_turn : {x x1 : List Float} {k : ℕ} → Steps (swapped n m ps x₀) n x k → k < n → x1 ≡ put x 0 (each_column n m (swap_items n k (get_or ps k 0)) (part x 0 (n * m)))
+      → Steps (swapped n m ps x₀) n x1 (k + 1)
+  swapped_turn {x} {x1} {k} s h e =
+      steps_turn s h
+      (each_then n m (λ l. permuted n ps l k) (swap_items n k (get_or ps k 0)) (λ l. permuted n ps l (k + 1)) x₀ x x1 size (λ l d. length-permuted n ps l k d)
+      (λ l d. permuted_more n ps l k) s.value (e ∙ each_whole n m (swap_items n k (get_or ps k 0)) x (each_size n m (λ l. permuted n ps l k) x₀ x s.value)))
 
 -- ---- forward substitution
 
--- the first i rows are final; q is the place of row i in the factors, y that in the matrix
-pub record Forwarded (f : Format) (n m : ℕ) (F x₀ x : List Float) (q y i : ℕ) : Type 0 where
-  pub within : i ≤ n
-  pub lent : length x₀ ≡ n * m
-  pub size : length x ≡ n * m
-  pub factors : q ≡ i * n
-  pub place : y ≡ i * m
-  pub list : x ≡ each_column n m (forward_to f n F i) x₀
+-- the first i rows of x are final
+abbrev pub forwarded : Format → ℕ → ℕ → List Float → List Float → ℕ → List Float
+forwarded f n m F x i = each_column n m (forward_to f n F i) x
 
-pub forwarded_start : {f : Format} {n m : ℕ} {F x₀ : List Float} → length x₀ ≡ n * m → Forwarded f n m F x₀ x₀ 0 0 0
-forwarded_start {f} {n} {m} {F} {x₀} l = record {
-  within = omega arith;
-  lent = l;
-  size = l;
-  factors = sym (zero-mul n);
-  place = sym (zero-mul m);
-  list = each_start n m (forward_to f n F 0) x₀ l (λ a s. sym (patch_none nan 0 (item (forward f n F a n)) a));
-}
+module _ (f : Format) (n m : ℕ) (F x₀ : List Float) (size : length x₀ ≡ n * m) where
+  pub forwarded_start : Steps (forwarded f n m F x₀) n x₀ 0
+  forwarded_start = steps_start (each_start n m (forward_to f n F 0) x₀ size (λ a s. sym (patch_none nan 0 (item (forward f n F a n)) a)))
 
-module _ {f : Format} {n m : ℕ} {F x₀ x : List Float} {q y i : ℕ} (s : Forwarded f n m F x₀ x q y i) where
-  pub forwarded_turn : {x1 : List Float} → i < n → x1 ≡ put x y (tab m (lower_entry f i (row_at F q) (column_at m x 0) (row_at x y))) → Forwarded f n m F x₀ x1 (q + n) (y + m) (i + 1)
+  pub forwarded_turn : {x x1 : List Float} {i : ℕ} → Steps (forwarded f n m F x₀) n x i → i < n → x1 ≡ put x (i * m) (tab m (lower_entry f i (row_at F (i * n)) (column_at m x 0) (row_at x (i * m))))
+      → Steps (forwarded f n m F x₀) n x1 (i + 1)
   unfolding at
-  forwarded_turn {x1} h e =
-      let p : y ≡ 0 + i * m = omega (arith, s.place) in
-      record {
-        within = omega arith;
-        lent = s.lent;
-        size = ap length e ∙ length-put x y _ ∙ s.size;
-        factors = omega (arith, s.factors, more_rows i n);
-        place = omega (arith, s.place, more_rows i m);
-        list =
-            forward_row f 0 n m F x₀ x (omega (arith, s.lent)) i (row_at F (i * n)) x1 h (λ k b. refl) (s.list ∙ sym (each_whole n m (forward_to f n F i) x₀ s.lent))
-            (rw (s.factors, p) at e)
-            ∙ each_whole n m (forward_to f n F (i + 1)) x₀ s.lent;
-      }
+  forwarded_turn {x} {x1} {i} s h e =
+      steps_turn s h
+      (forward_row f 0 n m F x₀ x (omega arith) i (row_at F (i * n)) x1 h (λ k b. refl) (s.value ∙ sym (each_whole n m (forward_to f n F i) x₀ size))
+      (subst (λ (y : ℕ). x1 ≡ put x y (tab m (lower_entry f i (row_at F (i * n)) (column_at m x 0) (row_at x y)))) (sym (zero-add (i * m))) e)
+      ∙ each_whole n m (forward_to f n F (i + 1)) x₀ size)
 
-  pub forwarded_end : n ≤ i → x ≡ each_column n m (λ l. forward f n F l n) x₀
-  forwarded_end h =
-      let e : i ≡ n = omega (arith, s.within) in
-      (rw e at s.list) ∙ each_cong n m (forward_to f n F n) (λ l. forward f n F l n) x₀ (forward_all f n F)
+  pub forwarded_end : {x : List Float} {i : ℕ} → Steps (forwarded f n m F x₀) n x i → n ≤ i → x ≡ each_column n m (λ l. forward f n F l n) x₀
+  forwarded_end s h = steps_end s h ∙ each_cong n m (forward_to f n F n) (λ l. forward f n F l n) x₀ (forward_all f n F)
 
 -- ---- back substitution
 
--- the rows from i on are final; q is the place of row i in the factors, y that in the matrix
-pub record Backed (f : Format) (n m : ℕ) (F x₀ x : List Float) (q y i : ℕ) : Type 0 where
-  pub within : i ≤ n
-  pub lent : length x₀ ≡ n * m
-  pub size : length x ≡ n * m
-  pub factors : q ≡ i * n
-  pub place : y ≡ i * m
-  pub list : x ≡ each_column n m (back_from f n F i) x₀
+-- the last k rows of x are final
+abbrev pub backed : Format → ℕ → ℕ → List Float → List Float → ℕ → List Float
+backed f n m F x k = each_column n m (back_from f n F (n - k)) x
 
-pub backed_start : {f : Format} {n m : ℕ} {F x₀ : List Float} → length x₀ ≡ n * m → Backed f n m F x₀ x₀ (n * n) (n * m) n
-backed_start {f} {n} {m} {F} {x₀} l = record {
-  within = omega arith;
-  lent = l;
-  size = l;
-  factors = refl;
-  place = refl;
-  list = each_start n m (back_from f n F n) x₀ l (λ a s. sym (patch_none nan n (item (back f n F a n)) a));
-}
+module _ (f : Format) (n m : ℕ) (F x₀ : List Float) (size : length x₀ ≡ n * m) where
+  -- the rows from i on
+  from_row : (k : ℕ) {i : ℕ} → n - k ≡ i → backed f n m F x₀ k ≡ each_column n m (back_from f n F i) x₀
+  from_row k e = ap (λ (i : ℕ). each_column n m (back_from f n F i) x₀) e
 
-module _ {f : Format} {n m : ℕ} {F x₀ x : List Float} {q y i : ℕ} (s : Backed f n m F x₀ x q y i) where
-  pub backed_turn : {x1 : List Float} → 0 < i → x1 ≡ put x (y - m) (tab m (upper_entry f (n - i) (row_at F (q - n + (i - 1))) (column_at m x (y - m)) (row_at x (y - m))))
-      → Backed f n m F x₀ x1 (q - n) (y - m) (i - 1)
+  pub backed_start : Steps (backed f n m F x₀) n x₀ 0
+  backed_start = steps_start (each_start n m (back_from f n F n) x₀ size (λ a s. sym (patch_none nan n (item (back f n F a n)) a)) ∙ sym (from_row _ (omega arith)))
+
+  pub backed_turn : {x x1 : List Float} {k : ℕ} → Steps (backed f n m F x₀) n x k → k < n
+      → let i : ℕ = n - 1 - k in x1 ≡ put x (i * m) (tab m (upper_entry f k (row_at F (i * n + i)) (column_at m x (i * m)) (row_at x (i * m)))) → Steps (backed f n m F x₀) n x1 (k + 1)
   unfolding at
-  backed_turn {x1} h e =
-      let a = row_down i n h in
-      let b = row_down i m h in
-      let g : q - n + (i - 1) ≡ (i - 1) * n + (i - 1) = omega (arith, s.factors, a) in
-      let p : y - m ≡ 0 + (i - 1) * m = omega (arith, s.place, b) in
-      let j : i ≡ i - 1 + 1 = omega arith in
-      let x' : x ≡ each_column n m (back_from f n F (i - 1 + 1)) x₀ = s.list ∙ ap (λ k. each_column n m (back_from f n F k) x₀) j in
-      record {
-        within = omega (arith, s.within);
-        lent = s.lent;
-        size = ap length e ∙ length-put x (y - m) _ ∙ s.size;
-        factors = omega (arith, s.factors, a);
-        place = omega (arith, s.place, b);
-        list =
-            back_row f 0 n m F x₀ x (omega (arith, s.lent)) (i - 1) (n - i) (row_at F ((i - 1) * n + (i - 1))) x1 (omega (arith, s.within))
-            (λ d u. let r : (i - 1) * n + (i - 1) + d ≡ (i - 1) * n + (i - 1 + d) = omega arith in ap (item F) r)
-            (x' ∙ sym (each_whole n m (back_from f n F (i - 1 + 1)) x₀ s.lent)) (rw (g, p) at e)
-            ∙ each_whole n m (back_from f n F (i - 1)) x₀ s.lent;
-      }
+  backed_turn {x} {x1} {k} s h e =
+      let i : ℕ = n - 1 - k in
+      steps_turn s h
+      (back_row f 0 n m F x₀ x (omega arith) i k (row_at F (i * n + i)) x1 (omega arith) (λ d u. ap (item F) (add_assoc (i * n) i d))
+      (s.value ∙ from_row _ (omega arith) ∙ sym (each_whole n m (back_from f n F (i + 1)) x₀ size))
+      (subst (λ (y : ℕ). x1 ≡ put x y (tab m (upper_entry f k (row_at F (i * n + i)) (column_at m x y) (row_at x y)))) (sym (zero-add (i * m))) e)
+      ∙ each_whole n m (back_from f n F i) x₀ size
+      ∙ sym (from_row _ (omega arith)))
 
-  pub backed_end : i ≤ 0 → x ≡ each_column n m (λ l. back f n F l n) x₀
-  backed_end h =
-      let e : i ≡ 0 = omega arith in
-      (rw e at s.list) ∙ each_cong n m (back_from f n F 0) (λ l. back f n F l n) x₀ (back_all f n F)
+  pub backed_end : {x : List Float} {k : ℕ} → Steps (backed f n m F x₀) n x k → n ≤ k → x ≡ each_column n m (λ l. back f n F l n) x₀
+  backed_end s h = steps_end s h ∙ from_row _ (omega arith) ∙ each_cong n m (back_from f n F 0) (λ l. back f n F l n) x₀ (back_all f n F)
 
 -- ---- the solution: the swaps, the forward and the back substitution
 

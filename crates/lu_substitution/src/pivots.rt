@@ -7,11 +7,7 @@ pub fn copy_pivots(dst: &mut [usize], src: &[usize])
     requires { length src.now ≡ length dst.old }
     ensures { dst.new ≡ src.now }
 {
-    let mut k = 0;
-    while k < src.len() {
-        dst[k] = src[k];
-        k += 1;
-    }
+    dst.copy_from_slice(src);
 }
 
 // How many of the pivots differ from their column.
@@ -20,12 +16,10 @@ pub fn swap_count(pivots: &[usize], n: usize) -> usize
     ensures { result ≡ swaps pivots.now n }
 {
     let mut c = 0;
-    let mut k = 0;
-    while k < n {
+    for k in 0..n {
         if pivots[k] != k {
             c += 1;
         }
-        k += 1;
     }
     c
 }

@@ -1,203 +1,133 @@
 // The solution of systems by their factors, for all right-hand columns at once, and the determinant. The right-hand matrix x has n rows and m columns
 // and becomes the solution row by row; f are the factors, a matrix of order n.
 ghost use Rattle.std.specs.Prelude.{◌≡◌, ℕ, ◌+◌, ◌*◌, ◌<◌, ◌≤◌, length, get_or};
-ghost use Rattle.std.specs.Float.{binary64};
 ghost use Rattle.arithmetic_matrices.specs.Matrix.{tab, put};
 ghost use Rattle.lu_factoring.specs.Solve.{permuted, solved_matrix, sign_of, determinant_of, forward as forward_of, back as back_of};
 ghost use Rattle.lu_factoring.specs.Kernels.{each_column};
 ghost use Rattle.lu_systems.specs.Kernels.{lower_entry, upper_entry, row_at, column_at};
 
 use crate::pivots::swap_count;
+use arithmetic_floats::real::Real;
 use arithmetic_matrices::matrix::entry;
 use lu_factoring::swap::exchange_rows;
 
 // The swaps of the factoring, in their order.
-fn permute_rows(x: &mut [f64], n: usize, m: usize, pivots: &[usize])
+fn permute_rows<T: Real>(x: &mut [T], n: usize, m: usize, pivots: &[usize])
     requires { (length x.old ≡ n * m) × (length pivots.now ≡ n) × ((k : ℕ) → k < n → get_or pivots.now k 0 < n) }
-    ensures { x.new ≡ each_column n m (λ l. permuted n pivots.now l n) x.old }
+    ensures { T.floats x.new ≡ each_column n m (λ l. permuted n pivots.now l n) (T.floats x.old) }
 {
-    let mut k = 0;
-    while k < n {
+    for k in 0..n {
         exchange_rows(x, 0, n, m, k, pivots[k]);
-        k += 1;
     }
 }
 
-// The four numbers at y + j and on: less the k factors at q times the first k rows, in the columns from j on.
-fn lower_four(x: &mut [f64], f: &[f64], q: usize, y: usize, j: usize, k: usize, m: usize)
-    requires { (j + 4 ≤ m) × (q + k ≤ length f.now) × (k * m ≤ length x.old) × (y + m ≤ length x.old) }
-    ensures { x.new ≡ put x.old (y + j) (tab 4 (λ t. lower_entry binary64 k (row_at f.now q) (column_at m x.old 0) (row_at x.old y) (j + t))) }
+// The C numbers at y + j and on: less the k factors at q times the first k rows, in the columns from j on. C is small: the compiler unrolls the loop over t
+// and keeps the sums in registers.
+fn lower_block<T: Real, const C: usize>(
+    x: &mut [T],
+    f: &[T],
+    q: usize,
+    y: usize,
+    j: usize,
+    k: usize,
+    m: usize,
+)
+    requires { (j + C ≤ m) × (q + k ≤ length f.now) × (k * m ≤ length x.old) × (y + m ≤ length x.old) }
+    ensures { T.floats x.new ≡ put (T.floats x.old) (y + j) (tab C (λ t. lower_entry T.format k (row_at (T.floats f.now) q) (column_at m (T.floats x.old) 0) (row_at (T.floats x.old) y) (j + t))) }
 {
     let z = y + j;
-    let mut s0 = x[z];
-    let mut s1 = x[z + 1];
-    let mut s2 = x[z + 2];
-    let mut s3 = x[z + 3];
-    let mut r = j;
-    let mut i = 0;
-    while i < k {
+    let mut sums = [T::ZERO; C];
+    sums.copy_from_slice(&x[z..z + C]);
+    for i in 0..k {
         let v = f[q + i];
-        s0 = s0 - v * x[r];
-        s1 = s1 - v * x[r + 1];
-        s2 = s2 - v * x[r + 2];
-        s3 = s3 - v * x[r + 3];
-        r += m;
-        i += 1;
+        for t in 0..C {
+            sums[t] = sums[t] - v * x[i * m + (j + t)];
+        }
     }
-    x[z] = s0;
-    x[z + 1] = s1;
-    x[z + 2] = s2;
-    x[z + 3] = s3;
-}
-
-// The same for the one number at y + j.
-fn lower_one(x: &mut [f64], f: &[f64], q: usize, y: usize, j: usize, k: usize, m: usize)
-    requires { (j < m) × (q + k ≤ length f.now) × (k * m ≤ length x.old) × (y + m ≤ length x.old) }
-    ensures { x.new ≡ put x.old (y + j) (tab 1 (λ t. lower_entry binary64 k (row_at f.now q) (column_at m x.old 0) (row_at x.old y) (j + t))) }
-{
-    let z = y + j;
-    let mut s0 = x[z];
-    let mut r = j;
-    let mut i = 0;
-    while i < k {
-        s0 = s0 - f[q + i] * x[r];
-        r += m;
-        i += 1;
-    }
-    x[z] = s0;
-}
-
-// The same for the next numbers: four of them, or one where fewer than four are left. Returns how many.
-fn lower_next(x: &mut [f64], f: &[f64], q: usize, y: usize, j: usize, k: usize, m: usize) -> usize
-    requires { (j < m) × (q + k ≤ length f.now) × (k * m ≤ length x.old) × (y + m ≤ length x.old) }
-    ensures { (1 ≤ result) × (j + result ≤ m) × (x.new ≡ put x.old (y + j) (tab result (λ t. lower_entry binary64 k (row_at f.now q) (column_at m x.old 0) (row_at x.old y) (j + t)))) }
-{
-    if j + 4 <= m {
-        lower_four(x, f, q, y, j, k, m);
-        return 4;
-    }
-    lower_one(x, f, q, y, j, k, m);
-    1
+    x[z..z + C].copy_from_slice(&sums);
 }
 
 // The row of m numbers at y, less the k factors at q times the first k rows, which stand before it.
-fn lower_row(x: &mut [f64], f: &[f64], q: usize, y: usize, k: usize, m: usize)
+fn lower_row<T: Real>(x: &mut [T], f: &[T], q: usize, y: usize, k: usize, m: usize)
     requires { (q + k ≤ length f.now) × (k * m ≤ y) × (y + m ≤ length x.old) }
-    ensures { x.new ≡ put x.old y (tab m (lower_entry binary64 k (row_at f.now q) (column_at m x.old 0) (row_at x.old y))) }
+    ensures { T.floats x.new ≡ put (T.floats x.old) y (tab m (lower_entry T.format k (row_at (T.floats f.now) q) (column_at m (T.floats x.old) 0) (row_at (T.floats x.old) y))) }
 {
-    let mut j = 0;
-    while j < m {
-        j += lower_next(x, f, q, y, j, k, m);
+    for b in 0..m / 4 {
+        lower_block::<T, 4>(x, f, q, y, 4 * b, k, m);
+    }
+    for j in 4 * (m / 4)..m {
+        lower_block::<T, 1>(x, f, q, y, j, k, m);
     }
 }
 
 // The forward substitution: L has a unit diagonal.
-fn forward_rows(x: &mut [f64], f: &[f64], n: usize, m: usize)
+fn forward_rows<T: Real>(x: &mut [T], f: &[T], n: usize, m: usize)
     requires { (length f.now ≡ n * n) × (length x.old ≡ n * m) }
-    ensures { x.new ≡ each_column n m (λ l. forward_of binary64 n f.now l n) x.old }
+    ensures { T.floats x.new ≡ each_column n m (λ l. forward_of T.format n (T.floats f.now) l n) (T.floats x.old) }
 {
-    let mut q = 0;
-    let mut y = 0;
-    let mut i = 0;
-    while i < n {
-        lower_row(x, f, q, y, i, m);
-        q += n;
-        y += m;
-        i += 1;
+    for i in 0..n {
+        lower_row(x, f, i * n, i * m, i, m);
     }
 }
 
-// The four numbers at y + j and on: less the k factors after the one at g times the k rows after the row at y, in the columns from j on, the last row
+// The C numbers at y + j and on: less the k factors after the one at g times the k rows after the row at y, in the columns from j on, the last row
 // first; then divided by the factor at g.
-fn upper_four(x: &mut [f64], f: &[f64], g: usize, y: usize, j: usize, k: usize, m: usize)
-    requires { (j + 4 ≤ m) × (g + k < length f.now) × (y + k * m + m ≤ length x.old) }
-    ensures { x.new ≡ put x.old (y + j) (tab 4 (λ t. upper_entry binary64 k (row_at f.now g) (column_at m x.old y) (row_at x.old y) (j + t))) }
+fn upper_block<T: Real, const C: usize>(
+    x: &mut [T],
+    f: &[T],
+    g: usize,
+    y: usize,
+    j: usize,
+    k: usize,
+    m: usize,
+)
+    requires { (j + C ≤ m) × (g + k < length f.now) × (y + k * m + m ≤ length x.old) }
+    ensures { T.floats x.new ≡ put (T.floats x.old) (y + j) (tab C (λ t. upper_entry T.format k (row_at (T.floats f.now) g) (column_at m (T.floats x.old) y) (row_at (T.floats x.old) y) (j + t))) }
 {
     let z = y + j;
-    let mut s0 = x[z];
-    let mut s1 = x[z + 1];
-    let mut s2 = x[z + 2];
-    let mut s3 = x[z + 3];
-    let mut p = z + k * m;
-    let mut r = k;
-    while 0 < r {
+    let mut sums = [T::ZERO; C];
+    sums.copy_from_slice(&x[z..z + C]);
+    for i in 0..k {
+        let r = k - i;
         let v = f[g + r];
-        s0 = s0 - v * x[p];
-        s1 = s1 - v * x[p + 1];
-        s2 = s2 - v * x[p + 2];
-        s3 = s3 - v * x[p + 3];
-        p -= m;
-        r -= 1;
+        for t in 0..C {
+            sums[t] = sums[t] - v * x[y + (r * m + (j + t))];
+        }
     }
     let d = f[g];
-    x[z] = s0 / d;
-    x[z + 1] = s1 / d;
-    x[z + 2] = s2 / d;
-    x[z + 3] = s3 / d;
-}
-
-// The same for the one number at y + j.
-fn upper_one(x: &mut [f64], f: &[f64], g: usize, y: usize, j: usize, k: usize, m: usize)
-    requires { (j < m) × (g + k < length f.now) × (y + k * m + m ≤ length x.old) }
-    ensures { x.new ≡ put x.old (y + j) (tab 1 (λ t. upper_entry binary64 k (row_at f.now g) (column_at m x.old y) (row_at x.old y) (j + t))) }
-{
-    let z = y + j;
-    let mut s0 = x[z];
-    let mut p = z + k * m;
-    let mut r = k;
-    while 0 < r {
-        s0 = s0 - f[g + r] * x[p];
-        p -= m;
-        r -= 1;
+    for t in 0..C {
+        x[z + t] = sums[t] / d;
     }
-    x[z] = s0 / f[g];
-}
-
-// The same for the next numbers: four of them, or one where fewer than four are left. Returns how many.
-fn upper_next(x: &mut [f64], f: &[f64], g: usize, y: usize, j: usize, k: usize, m: usize) -> usize
-    requires { (j < m) × (g + k < length f.now) × (y + k * m + m ≤ length x.old) }
-    ensures { (1 ≤ result) × (j + result ≤ m) × (x.new ≡ put x.old (y + j) (tab result (λ t. upper_entry binary64 k (row_at f.now g) (column_at m x.old y) (row_at x.old y) (j + t)))) }
-{
-    if j + 4 <= m {
-        upper_four(x, f, g, y, j, k, m);
-        return 4;
-    }
-    upper_one(x, f, g, y, j, k, m);
-    1
 }
 
 // The row of m numbers at y, less the k factors after the one at g times the k rows after it, the last first; then divided by the factor at g.
-fn upper_row(x: &mut [f64], f: &[f64], g: usize, y: usize, k: usize, m: usize)
+fn upper_row<T: Real>(x: &mut [T], f: &[T], g: usize, y: usize, k: usize, m: usize)
     requires { (g + k < length f.now) × (y + k * m + m ≤ length x.old) }
-    ensures { x.new ≡ put x.old y (tab m (upper_entry binary64 k (row_at f.now g) (column_at m x.old y) (row_at x.old y))) }
+    ensures { T.floats x.new ≡ put (T.floats x.old) y (tab m (upper_entry T.format k (row_at (T.floats f.now) g) (column_at m (T.floats x.old) y) (row_at (T.floats x.old) y))) }
 {
-    let mut j = 0;
-    while j < m {
-        j += upper_next(x, f, g, y, j, k, m);
+    for b in 0..m / 4 {
+        upper_block::<T, 4>(x, f, g, y, 4 * b, k, m);
+    }
+    for j in 4 * (m / 4)..m {
+        upper_block::<T, 1>(x, f, g, y, j, k, m);
     }
 }
 
 // The back substitution.
-fn back_rows(x: &mut [f64], f: &[f64], n: usize, m: usize)
+fn back_rows<T: Real>(x: &mut [T], f: &[T], n: usize, m: usize)
     requires { (length f.now ≡ n * n) × (length x.old ≡ n * m) }
-    ensures { x.new ≡ each_column n m (λ l. back_of binary64 n f.now l n) x.old }
+    ensures { T.floats x.new ≡ each_column n m (λ l. back_of T.format n (T.floats f.now) l n) (T.floats x.old) }
 {
-    let mut q = n * n;
-    let mut y = n * m;
-    let mut i = n;
-    while 0 < i {
-        let k = n - i;
-        i -= 1;
-        q -= n;
-        y -= m;
-        upper_row(x, f, q + i, y, k, m);
+    for k in 0..n {
+        let i = n - 1 - k;
+        upper_row(x, f, i * n + i, i * m, k, m);
     }
 }
 
 // The right-hand matrix x becomes the solution of the systems whose matrix has the factors f and the pivots.
-pub fn solve_rows(x: &mut [f64], f: &[f64], n: usize, m: usize, pivots: &[usize])
+pub fn solve_rows<T: Real>(x: &mut [T], f: &[T], n: usize, m: usize, pivots: &[usize])
     requires { (length f.now ≡ n * n) × (length x.old ≡ n * m) × (length pivots.now ≡ n) × ((k : ℕ) → k < n → get_or pivots.now k 0 < n) }
-    ensures { x.new ≡ solved_matrix binary64 n m f.now pivots.now x.old }
+    ensures { T.floats x.new ≡ solved_matrix T.format n m (T.floats f.now) pivots.now (T.floats x.old) }
 {
     permute_rows(x, n, m, pivots);
     forward_rows(x, f, n, m);
@@ -205,22 +135,20 @@ pub fn solve_rows(x: &mut [f64], f: &[f64], n: usize, m: usize, pivots: &[usize]
 }
 
 // 1 where the number of swaps is even, and -1 where it is odd.
-pub fn sign(c: usize) -> f64
-    ensures { result ≡ sign_of c }
+pub fn sign<T: Real>(c: usize) -> T
+    ensures { T.float result ≡ sign_of c }
 {
-    if c % 2 == 0 { 1.0 } else { -1.0 }
+    if c % 2 == 0 { T::ONE } else { -T::ONE }
 }
 
 // The determinant of the matrix that has the factors f and the pivots.
-pub fn determinant(f: &[f64], n: usize, pivots: &[usize]) -> f64
+pub fn determinant<T: Real>(f: &[T], n: usize, pivots: &[usize]) -> T
     requires { (length f.now ≡ n * n) × (length pivots.now ≡ n) }
-    ensures { result ≡ determinant_of binary64 n f.now pivots.now }
+    ensures { T.float result ≡ determinant_of T.format n (T.floats f.now) pivots.now }
 {
     let mut d = sign(swap_count(pivots, n));
-    let mut k = 0;
-    while k < n {
+    for k in 0..n {
         d = d * entry(f, n, n, k, k);
-        k += 1;
     }
     d
 }

@@ -103,49 +103,35 @@ module _ (f : Format) (n : ℕ) (F l : List Float) where
 
 -- ---- a turn of the sums; the factors stand in F, the right-hand sides in w, which may be one list
 
-pub lower_none : (f : Format) (m : ℕ) (F w : List Float) (q x y j p : ℕ) → p ≡ y + j → item w p ≡ lower_entry f 0 (row_at F q) (column_at m w x) (row_at w y) j
-unfolding lower_entry less_products
-lower_none f m F w q x y j p e = ap (item w) e
-
--- p is the place of entry k of the column
-pub lower_turn : (f : Format) (k m : ℕ) (F w : List Float) (q x y j p : ℕ) (s : Float) → s ≡ lower_entry f k (row_at F q) (column_at m w x) (row_at w y) j → p ≡ x + (k * m + j)
-    → sub f s (mul f (item F (q + k)) (item w p)) ≡ lower_entry f (k + 1) (row_at F q) (column_at m w x) (row_at w y) j
-unfolding lower_entry less_products
-lower_turn f k m F w q x y j p s e h = rw (e, h, add-one)
-
-pub lower_done : (f : Format) (i k m : ℕ) (F w : List Float) (q x y j : ℕ) (s : Float) → i ≡ k → s ≡ lower_entry f i (row_at F q) (column_at m w x) (row_at w y) j → s ≡ lower_entry f k (row_at F q) (column_at m w x) (row_at w y) j
-lower_done f i k m F w q x y j s h e = rw h at e
-
--- the same for back substitution: d of the k rows below are done, the last first
-abbrev pub upper_sum : Format → ℕ → ℕ → (ℕ → Float) → (ℕ → ℕ → Float) → (ℕ → Float) → ℕ → Float
-upper_sum f d k factors below row j = less_products f (row j) (λ e. factors (k - e)) (λ e. below j (k - e)) d
-
-pub upper_none : (f : Format) (k m : ℕ) (F w : List Float) (g y j p : ℕ) → p ≡ y + j → item w p ≡ upper_sum f (k - k) k (row_at F g) (column_at m w y) (row_at w y) j
-unfolding less_products
-upper_none f k m F w g y j p e = let z : k - k ≡ 0 = omega arith in rw z (ap (item w) e)
-
-pub upper_turn : (f : Format) (r k m : ℕ) (F w : List Float) (g y j p : ℕ) (s : Float) → 0 < r → r ≤ k → s ≡ upper_sum f (k - r) k (row_at F g) (column_at m w y) (row_at w y) j → p ≡ y + (r * m + j)
-    → sub f s (mul f (item F (g + r)) (item w p)) ≡ upper_sum f (k - (r - 1)) k (row_at F g) (column_at m w y) (row_at w y) j
-unfolding less_products
-upper_turn f r k m F w g y j p s hr hk e h =
-    let a : k - (r - 1) ≡ suc (k - r) = omega arith in
-    let b : k - (k - r) ≡ r = omega arith in
-    rw (e, h, a, b)
-
-pub upper_done : (f : Format) (r k m : ℕ) (F w : List Float) (g y j : ℕ) (s : Float) → r ≡ 0 → s ≡ upper_sum f (k - r) k (row_at F g) (column_at m w y) (row_at w y) j → div f s (item F g) ≡ upper_entry f k (row_at F g) (column_at m w y) (row_at w y) j
-unfolding upper_entry
-upper_done f r k m F w g y j s h e =
-    let a : k - r ≡ k = omega arith in
-    let b : g ≡ g + 0 = omega arith in
-    λ t. div f ((rw a at e) t) (item F (b t))
-
--- the row before row r
-pub row_down : (r m : ℕ) → 0 < r → r * m ≡ (r - 1) * m + m
-row_down r m h = let e : r ≡ r - 1 + 1 = omega arith in ap (λ t. t * m) e ∙ more_rows (r - 1) m
-
 -- row i, and the k rows after it
 pub rows_from : (i k n m : ℕ) → i + suc k ≡ n → i * m + (k * m + m) ≡ n * m
 rows_from i k n m h = let e : i + (k + 1) ≡ n = omega arith in ap (λ t. i * m + t) (sym (more_rows k m)) ∙ sym (add-mul i (k + 1) m) ∙ ap (λ t. t * m) e
+
+-- ---- the sums of a block of a row
+
+-- t is the sum s, which is less the first k products, less the product p of v and u, which are the next two numbers
+pub less_added : (f : Format) (x : Float) (a b : ℕ → Float) {k : ℕ} {s v u p t : Float} → t ≡ sub f s p → p ≡ mul f v u → s ≡ less_products f x a b k → v ≡ a k → u ≡ b k → t ≡ less_products f x a b (k + 1)
+unfolding less_products
+less_added f x a b d e hs hv hu = d ∙ (λ i. sub f (hs i) ((e ∙ (λ j. mul f (hv j) (hu j))) i)) ∙ rw add-one
+
+-- number t of the row at y from column j on, less the first i products
+abbrev pub less_row : Format → List Float → ℕ → ℕ → (ℕ → Float) → (ℕ → ℕ → Float) → ℕ → ℕ → Float
+less_row f w y j a b i t = less_products f (row_at w y (j + t)) a (b (j + t)) i
+
+pub less_row_none : (f : Format) (w : List Float) (y j c : ℕ) (a : ℕ → Float) (b : ℕ → ℕ → Float) → part w (y + j) c ≡ tab c (less_row f w y j a b 0)
+unfolding part less_products
+less_row_none f w y j c a b = tab_cong c _ (less_row f w y j a b 0) (λ t h. let e : y + j + t ≡ y + (j + t) = omega arith in ap (item w) e)
+
+-- all k products are taken off; the factors stand in F, the right-hand sides in w, which may be one list
+pub lower_row_done : (f : Format) (i k m : ℕ) (F w : List Float) (q x y j c : ℕ) {l : List Float} → i ≡ k → l ≡ tab c (less_row f w y j (row_at F q) (column_at m w x) i)
+    → l ≡ tab c (λ t. lower_entry f k (row_at F q) (column_at m w x) (row_at w y) (j + t))
+unfolding lower_entry
+lower_row_done f i k m F w q x y j c h e = rw h at e
+
+pub upper_row_done : (f : Format) (i k m : ℕ) (F w : List Float) (g y j t : ℕ) {r s d : Float} → i ≡ k → r ≡ div f s d → s ≡ less_row f w y j (λ e. row_at F g (k - e)) (λ u e. column_at m w y u (k - e)) i t → d ≡ item F g
+    → r ≡ upper_entry f k (row_at F g) (column_at m w y) (row_at w y) (j + t)
+unfolding upper_entry
+upper_row_done f i k m F w g y j t h e hs hd = let b : g ≡ g + 0 = omega arith in e ∙ (λ u. div f ((rw h at hs) u) ((hd ∙ ap (item F) b) u))
 
 -- ---- a row, written from the left
 
@@ -325,11 +311,11 @@ module _ (f : Format) (o x n m : ℕ) (w₀ w : List Float) (room : x + n * m �
       ap (item w) a ∙ sym (at_part w o n n i (i + d) b (omega arith)) ∙ ap (λ (l : List Float). at n l i (i + d)) (factors_kept x n m (back_from f n F₀ (i + 1)) w₀ w room e o apart))
       e e1
 
-  -- the same with the places g and y as the loop has them, j being i before it is counted down
-  pub back_rows_turn : (j i k g y : ℕ) (w1 : List Float) → j ≡ i + 1 → i + suc k ≡ n → g ≡ o + i * n + i → y ≡ x + i * m
-      → w ≡ put w₀ x (each_column n m (back_from f n F₀ j) (part w₀ x (n * m))) → w1 ≡ put w y (tab m (upper_entry f k (row_at w g) (column_at m w y) (row_at w y)))
+  -- the same with the final rows counted from the last one
+  pub back_rows_turn : (i j k : ℕ) (w1 : List Float) → j ≡ i + 1 → i + suc k ≡ n → w ≡ put w₀ x (each_column n m (back_from f n F₀ j) (part w₀ x (n * m)))
+      → w1 ≡ put w (x + i * m) (tab m (upper_entry f k (row_at w (o + i * n + i)) (column_at m w (x + i * m)) (row_at w (x + i * m))))
       → w1 ≡ put w₀ x (each_column n m (back_from f n F₀ i) (part w₀ x (n * m)))
-  back_rows_turn j i k g y w1 hj hi hg hy e e1 = back_rows_more i k w1 hi (rw hj at e) (rw (hg, hy) at e1)
+  back_rows_turn i j k w1 hj hi e e1 = back_rows_more i k w1 hi (rw hj at e) e1
 
   pub back_rows_all : (i : ℕ) → i ≡ 0 → w ≡ put w₀ x (each_column n m (back_from f n F₀ i) (part w₀ x (n * m)))
       → w ≡ put w₀ x (each_column n m (λ l. back f n F₀ l n) (part w₀ x (n * m)))

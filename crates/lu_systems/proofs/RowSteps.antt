@@ -65,14 +65,14 @@ module _ (f : Format) (o x n : ℕ) (w₀ w w1 : List Float) (room : x + n ≤ l
           ∙ (λ t. set (sym (put-part w₀ x n room) t) (x + k) (div f (sym (get_d_part w₀ x n k hk) t) (ed t)))
           ∙ set_put_in w₀ x l₀ k (div f (item l₀ k) (at n F₀ k k)) (omega (arith, length_part w₀ x n))
 
-  pub back_column_turn : (k : ℕ) → 0 < k → k ≤ n → w ≡ put w₀ x (back f n F₀ l₀ (n - k)) → w1 ≡ put w x (back_step f n (part w o (n * n)) (k - 1) (part w x n))
-      → w1 ≡ put w₀ x (back f n F₀ l₀ (n - (k - 1)))
-  back_column_turn k hk hn e e1 =
-      let size = length_back f n F₀ l₀ (n - k) (length_part w₀ x n) in
-      part_turn x n w₀ w w1 (back f n F₀ l₀ (n - k)) (back f n F₀ l₀ (n - (k - 1))) (back_step f n (part w o (n * n)) (k - 1)) room size
-      (length_back f n F₀ l₀ (n - (k - 1)) (length_part w₀ x n)) e e1
-      (back_turn f n F₀ l₀ (back f n F₀ l₀ (n - k)) _ k hk hn refl
-      (ap (λ (a : List Float). back_step f n a (k - 1) (back f n F₀ l₀ (n - k))) (part_kept o (n * n) x n w₀ w (back f n F₀ l₀ (n - k)) apart size e)))
+  pub back_column_turn : (k : ℕ) → w ≡ put w₀ x (back f n F₀ l₀ k) → w1 ≡ put w x (back_step f n (part w o (n * n)) (n - (k + 1)) (part w x n))
+      → w1 ≡ put w₀ x (back f n F₀ l₀ (k + 1))
+  back_column_turn k e e1 =
+      let size = length_back f n F₀ l₀ k (length_part w₀ x n) in
+      part_turn x n w₀ w w1 (back f n F₀ l₀ k) (back f n F₀ l₀ (k + 1)) (back_step f n (part w o (n * n)) (n - (k + 1))) room size
+      (length_back f n F₀ l₀ (k + 1) (length_part w₀ x n)) e e1
+      (back_turn f n F₀ l₀ (back f n F₀ l₀ k) _ k refl
+      (ap (λ (a : List Float). back_step f n a (n - (k + 1)) (back f n F₀ l₀ k)) (part_kept o (n * n) x n w₀ w (back f n F₀ l₀ k) apart size e)))
 
 -- the factors are at o, v is the number in row k
 pub lower_column_turn : (f : Format) (o x n k lo i : ℕ) (w₀ w : List Float) (q v : Float) → k < n → lo ≤ i → i < n → x + n ≤ length w₀ → Apart o (n * n) x n

@@ -1,14 +1,12 @@
 -- Demand 3 at numbers, by computation: runs of frechet_expm that meet the proviso, with what follows for their first output, and one that does not meet
 -- it, whose first output is another. (functions_definitions/specs/Frechet.antt says what the proviso is.) The numbers are the same in both formats, and
 -- so are the halvings: every claim is over the format, and computed in each.
-use Rattle.std.specs.Prelude.{◌≡◌, refl, List, [], ◌∷◌, Bool, true, false, T, pos, negsuc, Float}
+use Rattle.std.specs.Prelude.{◌≡◌, refl, List, [], ◌∷◌, Bool, true, false, T, pos, negsuc, Float, Ok}
 use Rattle.std.proofs.Common.{sym, subst, ◌∙◌, lit≤}
 use Rattle.std.specs.Float.{fin, inf, nan, Format, binary32, binary64}
 use Rattle.arithmetic_questions.specs.Result.{done, outcome}
-use Rattle.arithmetic_questions.specs.Answers.{reported}
-use Rattle.arithmetic_questions.specs.declared.answer.Outcome.{Outcome}
+use Rattle.arithmetic_questions.specs.Answers.{Outcome, reported}
 use Rattle.lu_factoring.specs.Lu.{lu_outcome}
-use Rattle.lu_factoring.specs.declared.LuOutcome.TheVariants.{Factored}
 use Rattle.functions_definitions.specs.Exponential.{exponential, denominator, scaled, block, quarter}
 use Rattle.functions_definitions.specs.Frechet.{Proviso, FirstAlone}
 use Rattle.functions_definitions.specs.Calls.{frechet_expm}
@@ -51,7 +49,7 @@ finite_three : (f : Format) → T (finite_run f 2 2 (block 1 one three))
 unfolding tests
 finite_three = in_each _ tt tt
 
-accepts_three : (f : Format) → lu_outcome f 2 (denominator f 2 (scaled f 2 2 (block 1 one three))) ≡ Factored
+accepts_three : (f : Format) → lu_outcome f 2 (denominator f 2 (scaled f 2 2 (block 1 one three))) ≡ Ok tt
 unfolding all
 accepts_three = in_each _ refl refl
 
@@ -62,7 +60,7 @@ finite_minus : (f : Format) → T (finite_run f 2 2 (block 1 one minus_five_halv
 unfolding tests
 finite_minus = in_each _ tt tt
 
-accepts_minus : (f : Format) → lu_outcome f 2 (denominator f 2 (scaled f 2 2 (block 1 one minus_five_halves))) ≡ Factored
+accepts_minus : (f : Format) → lu_outcome f 2 (denominator f 2 (scaled f 2 2 (block 1 one minus_five_halves))) ≡ Ok tt
 unfolding all
 accepts_minus = in_each _ refl refl
 
@@ -91,7 +89,7 @@ finite_run_sample : (f : Format) → T (finite_run f 4 3 (block 2 matrix directi
 unfolding tests
 finite_run_sample = in_each _ tt tt
 
-accepts : (f : Format) → lu_outcome f 4 (denominator f 4 (scaled f 4 3 (block 2 matrix direction))) ≡ Factored
+accepts : (f : Format) → lu_outcome f 4 (denominator f 4 (scaled f 4 3 (block 2 matrix direction))) ≡ Ok tt
 unfolding all
 accepts = in_each _ refl refl
 

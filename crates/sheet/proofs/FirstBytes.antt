@@ -10,34 +10,31 @@ use lib.Dec.{ltb}
 use lib.ListN.{length, take, length-take}
 use lib.Seq.{get_or-take, take_all}
 use lib.Ieee.{Format}
-use Rattle.sheet_encoding.specs.declared.parse.Read.{Read}
-use Rattle.sheet_encoding.specs.declared.parse.Read.TheVariants.{Value, No}
-use Rattle.sheet_encoding.specs.declared.parse.Parse.{Parse}
-use Rattle.sheet_encoding.specs.declared.parse.Parse.TheVariants.{Sheet, Refused}
+use Rattle.std.specs.Prelude.{Ok, Err}
 use Rattle.sheet_encoding.specs.Bytes.{byte_at}
 use Rattle.sheet_encoding.specs.Limits.{task_limit, code_limit}
-use Rattle.sheet_encoding.specs.Parse.{matrix_size, directions_at, exponents_at, tasks_at, sheet_length, byte_in, bytes_after, then_read, then_parse, section, order, direction_count, exponent_count, task_count, index_limit, task, tasks, parse_end, parse_each, parse_tasks, parse_exponents, parse_directions, parse_sheet}
+use Rattle.sheet_encoding.specs.Parse.{Read, Parse, matrix_size, directions_at, exponents_at, tasks_at, sheet_length, byte_in, bytes_after, then_read, section, order, direction_count, exponent_count, task_count, index_limit, task, tasks, parse_end, parse_each, parse_tasks, parse_exponents, parse_directions, parse_sheet}
 use Rattle.sheet.specs.Lines.{lines_of, sheet_lines}
 use Rattle.sheet_encoding.proofs.ParseLaws.{byte_in_is, section_is, order_is}
 
 -- ---- two sheets that are read alike
 
 abbrev IsRefused : Parse → Type 0
-IsRefused (Sheet n d e t) = ⊥
-IsRefused (Refused why) = Unit {0}
+IsRefused (Ok c) = ⊥
+IsRefused (Err why) = Unit {0}
 
 -- the same refusal
 record Alike (x x' : Parse) : Type 0 where
   same : x ≡ x'
   refused : IsRefused x
 
-read_same : (x x' : Read) (k k' : ℕ → Read) → x ≡ x' → ((v : ℕ) → x ≡ Value v → k v ≡ k' v) → then_read x k ≡ then_read x' k'
-read_same (Value v) x' k k' e h = subst (λ (z : Read). k v ≡ then_read z k') e (h v refl)
-read_same (No why) x' k k' e h = subst (λ (z : Read). No why ≡ then_read z k') e refl
+read_same : (x x' : Read) (k k' : ℕ → Read) → x ≡ x' → ((v : ℕ) → x ≡ Ok v → k v ≡ k' v) → then_read x k ≡ then_read x' k'
+read_same (Ok v) x' k k' e h = subst (λ (z : Read). k v ≡ then_read z k') e (h v refl)
+read_same (Err why) x' k k' e h = subst (λ (z : Read). Err why ≡ then_read z k') e refl
 
-parse_same : (x x' : Read) (k k' : ℕ → Parse) → x ≡ x' → ((v : ℕ) → x ≡ Value v → Alike (k v) (k' v)) → Alike (then_parse x k) (then_parse x' k')
-parse_same (Value v) x' k k' e h = subst (λ (z : Read). Alike (k v) (then_parse z k')) e (h v refl)
-parse_same (No why) x' k k' e h = subst (λ (z : Read). Alike (Refused why) (then_parse z k')) e record { same = refl; refused = tt }
+parse_same : (x x' : Read) (k k' : ℕ → Parse) → x ≡ x' → ((v : ℕ) → x ≡ Ok v → Alike (k v) (k' v)) → Alike (then_read x k) (then_read x' k')
+parse_same (Ok v) x' k k' e h = subst (λ (z : Read). Alike (k v) (then_read z k')) e (h v refl)
+parse_same (Err why) x' k k' e h = subst (λ (z : Read). Alike (Err why) (then_read z k')) e record { same = refl; refused = tt }
 
 -- ---- two sheets of at least 4,709 bytes, of which the first 4,709 are the same
 
@@ -114,8 +111,8 @@ module _ (s s' : List ℕ) (l : 4709 ≤ length s) (l' : 4709 ≤ length s') (sa
   lines_same f = go (parse_sheet s) (parse_sheet s') sheet_same.same sheet_same.refused
     where
       go : (x x' : Parse) → x ≡ x' → IsRefused x → lines_of f s x ≡ lines_of f s' x'
-      go (Sheet n d i t) x' e h = absurd h
-      go (Refused why) x' e h = ap (lines_of f s') e
+      go (Ok c) x' e h = absurd h
+      go (Err why) x' e h = ap (lines_of f s') e
 
 -- ---- the claim
 

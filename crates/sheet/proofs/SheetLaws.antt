@@ -1,4 +1,4 @@
--- Lines one after the other, the tasks of an accepted sheet, and the entry. Assumes nothing.
+-- Lines one after the other, and the tasks of an accepted sheet. Assumes nothing.
 use Prim.Native.Nat.{ℕ, ◌+◌, ◌*◌, ◌≤◌, ◌<◌}
 use native.Mathlib.Omega.{arith}
 use native.Mathlib.Numerals.{add-one}
@@ -10,16 +10,14 @@ use borrow.Author.Tests.{eq-eqb, ne_eqb}
 use lib.ListN.{length}
 use lib.Ieee.{Format}
 use Rattle.sheet_encoding.specs.declared.parse.SheetRefusal.{SheetRefusal}
-use Rattle.sheet_encoding.specs.declared.parse.Parse.{Parse}
-use Rattle.sheet_encoding.specs.declared.parse.Parse.TheVariants.{Sheet, Refused}
+use Rattle.sheet_encoding.specs.declared.parse.Counts.{Counts}
+use Rattle.std.specs.Prelude.{Ok, Err}
 use Rattle.sheet_encoding.specs.Bytes.{byte_at}
 use Rattle.sheet_encoding.specs.Text.{result_line, carrying}
-use Rattle.sheet_encoding.specs.Kernels.{AllLines}
-use Rattle.sheet_encoding.specs.Limits.{output_limit}
-use Rattle.sheet_encoding.specs.Parse.{sheet_numbered, matrix_size, directions_at, exponents_at, tasks_at, task_at, takes_direction, index_limit, parse_sheet, SheetIs}
+use Rattle.sheet_encoding.specs.Parse.{Parse, sheet_numbered, matrix_size, directions_at, exponents_at, task_at, takes_direction, index_limit, parse_sheet, SheetIs}
 use Rattle.sheet_tasks.specs.Tasks.{task_line}
 use Rattle.sheet_tasks.specs.Kernels.{TaskReady}
-use Rattle.sheet.specs.Lines.{task_lines, lines_of, sheet_lines, Entered}
+use Rattle.sheet.specs.Lines.{task_lines, counted_lines, lines_of, sheet_lines}
 
 -- ---- the lines
 
@@ -31,13 +29,13 @@ pub lines_more : (f : Format) (s : List ℕ) (n d q k : ℕ) → task_lines f s 
 unfolding task_lines
 lines_more f s n d q k = subst (λ (m : ℕ). task_lines f s n d q m ≡ task_lines f s n d q k ++ task_line f s n d q k) (sym (add-one k)) refl
 
-pub lines_refused : (f : Format) (s : List ℕ) (x : Parse) (why : SheetRefusal) → x ≡ parse_sheet s → x ≡ Refused why → result_line f 0 (carrying [] (sheet_numbered why)) ≡ sheet_lines f s
+pub lines_refused : (f : Format) (s : List ℕ) (x : Parse) (why : SheetRefusal) → x ≡ parse_sheet s → x ≡ Err why → result_line f 0 (carrying [] (sheet_numbered why)) ≡ sheet_lines f s
 unfolding sheet_lines lines_of
 lines_refused f s x why e h = rw (← e, h)
 
-pub lines_accepted : (f : Format) (s : List ℕ) (x : Parse) (n d e t : ℕ) → x ≡ parse_sheet s → x ≡ Sheet n d e t → task_lines f s n d (tasks_at n d e + 1) t ≡ sheet_lines f s
+pub lines_accepted : (f : Format) (s : List ℕ) (x : Parse) (c : Counts) → x ≡ parse_sheet s → x ≡ Ok c → counted_lines f s c ≡ sheet_lines f s
 unfolding sheet_lines lines_of
-lines_accepted f s x n d e t q h = rw (← q, h)
+lines_accepted f s x c q h = rw (← q, h)
 
 -- ---- the tasks
 
@@ -62,13 +60,3 @@ task_ready s n d e t k z h =
       direction = λ c. item-within (directions_at n + 1) (matrix_size n) (byte_at s (q + 1)) d (length s) (limit_direction (byte_at s q) d e (byte_at s (q + 1)) c task.index) (omega (arith, z.long));
       index = λ c. let l = limit_direction (byte_at s q) d e (byte_at s (q + 1)) c task.index in omega (arith, z.directions);
     }
-
--- ---- the entry
-
-pub entered_short : (f : Format) (s out : List ℕ) → length out < output_limit → Entered f s out out 0
-entered_short f s out h = record { refused = λ l. (refl, refl); written = λ l. absurd (omega arith); within = omega arith; short = omega arith }
-
-pub entered : (f : Format) (s out out' : List ℕ) (r : ℕ) → output_limit ≤ length out → AllLines out (sheet_lines f s) out' r → Entered f s out out' r
-entered f s out out' r h l =
-    let w = l.wrote in
-    record { refused = λ k. absurd (omega arith); written = λ k. (omega (arith, w.past), w.bytes); within = omega (arith, w.past, w.fits); short = l.short }

@@ -1,11 +1,10 @@
 -- The lines of a sheet, and what the entry that runs it writes. Definitions only.
-use Rattle.std.specs.Prelude.{ℕ, zero, suc, ◌+◌, ◌≤◌, ◌<◌, ◌≡◌, List, [], ◌++◌, length, drop}
+use Rattle.std.specs.Prelude.{ℕ, zero, suc, ◌+◌, ◌≤◌, ◌<◌, ◌≡◌, List, [], ◌++◌, length, drop, Ok, Err}
 use Rattle.std.specs.Float.{Format}
-use Rattle.sheet_encoding.specs.declared.parse.Parse.{Parse}
-use Rattle.sheet_encoding.specs.declared.parse.Parse.TheVariants.{Sheet, Refused}
+use Rattle.sheet_encoding.specs.declared.parse.Counts.{Counts}
 use Rattle.sheet_encoding.specs.Text.{result_line, carrying}
 use Rattle.sheet_encoding.specs.Limits.{output_limit}
-use Rattle.sheet_encoding.specs.Parse.{sheet_numbered, tasks_at, parse_sheet}
+use Rattle.sheet_encoding.specs.Parse.{Parse, sheet_numbered, tasks_at, parse_sheet}
 use Rattle.sheet_tasks.specs.Tasks.{task_line}
 
 -- the first k tasks of those from q on
@@ -13,10 +12,14 @@ unfoldable pub task_lines : Format → List ℕ → ℕ → ℕ → ℕ → ℕ 
 task_lines f s n d q zero = []
 task_lines f s n d q (suc k) = task_lines f s n d q k ++ task_line f s n d q k
 
+-- all tasks of a sheet with these counts
+abbrev pub counted_lines : Format → List ℕ → Counts → List ℕ
+counted_lines f s c = task_lines f s c.order c.directions (tasks_at c.order c.directions c.exponents + 1) c.tasks
+
 -- a refused sheet has one line, with task number 0
 unfoldable pub lines_of : Format → List ℕ → Parse → List ℕ
-lines_of f s (Sheet n d e t) = task_lines f s n d (tasks_at n d e + 1) t
-lines_of f s (Refused why) = result_line f 0 (carrying [] (sheet_numbered why))
+lines_of f s (Ok c) = counted_lines f s c
+lines_of f s (Err why) = result_line f 0 (carrying [] (sheet_numbered why))
 
 -- all that is written for the sheet s
 unfoldable pub sheet_lines : Format → List ℕ → List ℕ

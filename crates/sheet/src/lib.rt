@@ -8,11 +8,11 @@ ghost use Rattle.sheet_writing.specs.Sections.{sections_of};
 ghost use Rattle.sheet_writing.specs.Written.{written, why_of, WroteSheet};
 ghost use Rattle.sheet.specs.Lines.{Entered};
 
-use sheet_encoding::line::sheet_code_of;
+use sheet_encoding::line::Code;
 
 mod run;
 
-pub use sheet_writing::{Written, write_sheet};
+pub use sheet_writing::{Sections, write_sheet};
 
 // The lines of the sheet's tasks are written to out, and the number of bytes written is reported. An out of fewer than 35,500 bytes is refused
 // before the sheet is read: 0 is reported, and no byte written.
@@ -26,7 +26,7 @@ pub fn axis_sheet(sheet: &[u8], out: &mut [u8]) -> usize
 }
 
 // `write_sheet` for another language: the length of the sheet is reported, and 0 beside a refusal, whose number and details are left in why. Where the sheet
-// is written, why has three zeros.
+// is written, why has three zeros. C passes no struct of slices, so the sections are eight parameters here.
 pub fn axis_write(
     order: usize,
     matrix: &[u64],
@@ -42,15 +42,23 @@ pub fn axis_write(
     ensures wrote_sheet { WroteSheet (sections_of order matrix.now directions direction.now exponents exponent.now tasks task.now) out.old out.new result }
     ensures why_after { why.new ≡ why_of (outcome (written (sections_of order matrix.now directions direction.now exponents exponent.now tasks task.now) (length out.old))) }
 {
-    match write_sheet(
-        order, matrix, directions, direction, exponents, exponent, tasks, task, out,
-    ) {
-        Written::Length(length) => {
-            *why = [0, 0, 0];
+    let sections = Sections {
+        order,
+        matrix,
+        directions,
+        direction,
+        exponents,
+        exponent,
+        tasks,
+        task,
+    };
+    match write_sheet(&sections, out) {
+        Ok(length) => {
+            *why = [0; 3];
             length
         }
-        Written::Refused(refusal) => {
-            let code = sheet_code_of(refusal);
+        Err(refusal) => {
+            let code = Code::from(refusal);
             *why = [code.number as u64, code.first as u64, code.second as u64];
             0
         }

@@ -1,18 +1,13 @@
 -- Lines of answers. Assumes nothing.
+use Rattle.std.specs.Prelude.{Ok}
 use Prim.Native.Nat.{ℕ}
 use mathlib.Core.Path.{◌≡◌, ap, sym, ◌∙◌}
 use mathlib.Core.List.{List, [], ◌∷◌, ◌++◌, append_assoc}
 use lib.Ieee.{Float, Format}
 use Rattle.arithmetic_questions.specs.Result.{Result, refused}
-use Rattle.arithmetic_questions.specs.Answers.{reported}
-use Rattle.arithmetic_questions.specs.declared.answer.Outcome.{Outcome}
-use Rattle.arithmetic_questions.specs.declared.answer.Outcome.TheVariants.{Done}
+use Rattle.arithmetic_questions.specs.Answers.{Outcome, reported}
 use Rattle.sheet_encoding.specs.Text.{newline, field, number_text, numbers_text, refused_line, done_head, done_line, result_line, carrying}
 use Rattle.sheet_encoding.proofs.TextLaws.{numbers_text_append, numbers_text_one}
-
--- a refusal by its number and details
-pub coded_as : {q : Result (Unit {0})} {k x y n a b : ℕ} → q ≡ refused k x y → (n ≡ k) × (a ≡ x) × (b ≡ y) → q ≡ refused n a b
-coded_as e (h, i, j) = rw (h, i, j) e
 
 -- the numbers of two outputs, one after the other, and one number more
 pub done_line_lem : (f : Format) (task s : ℕ) (l m : List Float) (v : Float)
@@ -27,7 +22,7 @@ done_line_lem f task s l m v =
     ap (λ (t : List ℕ). t ++ newline) (ap (λ (t : List ℕ). h ++ t) parts ∙ sym (append_assoc h (x ++ y) z) ∙ ap (λ (t : List ℕ). t ++ z) (sym (append_assoc h x y)))
 
 -- the line of an outcome with numbers
-pub answer_done : (f : Format) (task s : ℕ) (o : Outcome) (m : List Float) → o ≡ Done s → done_line f task s m ≡ result_line f task (carrying m (reported o))
+pub answer_done : (f : Format) (task s : ℕ) (o : Outcome) (m : List Float) → o ≡ Ok s → done_line f task s m ≡ result_line f task (carrying m (reported o))
 unfolding result_line carrying
 answer_done f task s o m e = rw e
 

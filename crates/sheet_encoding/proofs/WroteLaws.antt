@@ -1,25 +1,12 @@
 -- Text written at a cursor, one piece after the other. Assumes nothing.
-use Prim.Native.Nat.{ℕ, suc, ◌+◌, ◌-◌, ◌≤◌, ◌<◌}
+use Prim.Native.Nat.{ℕ, ◌+◌, ◌≤◌, ◌<◌}
 use mathlib.Core.Path.{◌≡◌, refl, ap, sym, ◌∙◌}
-use mathlib.Core.List.{List, [], ◌∷◌, ◌++◌, append_assoc, append-nil}
+use mathlib.Core.List.{List, [], ◌∷◌, ◌++◌, append_assoc}
 use native.Mathlib.Omega.{arith}
 use native.Mathlib.Numerals.{add-one}
-use lib.ListN.{length, take, drop, get_or, set, length-append, length-take, length-drop, take-append-drop, drop_of_length-le}
-use lib.Seq.{take_at, drop_at, drop-drop, drop-cons, set_at, set_split, append_snoc, take-suc, take_all, length-take-le}
+use lib.ListN.{length, take, drop, set, length-append, length-take, length-drop, take-append-drop}
+use lib.Seq.{take_at, drop_at, drop-drop, set_split, length-take-le}
 use Rattle.sheet_encoding.specs.Kernels.{replaced, Wrote}
-
--- ---- a copy from the front
-
--- the first j bytes of s, and d from j on
-abbrev pub copied : List ℕ → List ℕ → ℕ → List ℕ
-copied s d j = take j s ++ drop j d
-
-pub copied_more : (s d : List ℕ) (j : ℕ) → j < length s → j < length d → set (copied s d j) j (get_or s j 0) ≡ copied s d (j + 1)
-copied_more s d j hs hd =
-    rw (add-one, drop-cons d j 0, set_at (take j s) (get_or d j 0) (drop (suc j) d) (get_or s j 0) j (length-take-le j s (omega arith)), take-suc s j 0, append_snoc (take j s) (get_or s j 0) (drop (suc j) d))
-
-pub copied_all : (s d : List ℕ) (j : ℕ) → length s ≤ j → length d ≤ j → copied s d j ≡ s
-copied_all s d j hs hd = rw (take_all j s, drop_of_length-le d {i = j}, append-nil)
 
 -- ---- pieces of text
 
@@ -53,7 +40,3 @@ wrote_more {o} {a} {t} {o'} {a'} {u} {o''} {a''} w v =
 -- a single byte
 pub wrote_byte : (o : List ℕ) (a b : ℕ) → a < length o → Wrote o a (b ∷ []) (set o a b) (a + 1)
 wrote_byte o a b h = record { bytes = set_split o a b h ∙ rw (drop-drop 1 a o, add-one a); past = refl; fits = omega arith }
-
--- a lent part from a to z has come back at t', which is t
-pub wrote_part : (o : List ℕ) (a z : ℕ) (t t' : List ℕ) → z ≡ a + length t → z ≤ length o → t' ≡ t → Wrote o a t (take a o ++ (t' ++ drop (z - a) (drop a o))) z
-wrote_part o a z t t' l h e = let k : z - a ≡ length t = omega arith in record { bytes = rw (e, k); past = l; fits = omega arith }

@@ -1,21 +1,13 @@
 -- Text written into an output at a cursor, one piece after the other. Only the contracts of kernels cite it. Definitions only.
 use Rattle.std.specs.Prelude.{◌≤◌, ℕ, ◌+◌, ◌≡◌, List, ◌++◌, length, take, drop, Float}
 use Rattle.arithmetic_questions.specs.Result.{Result, refused, done}
-use Rattle.arithmetic_questions.specs.Answers.{reported}
-use Rattle.arithmetic_questions.specs.declared.answer.Outcome.{Outcome}
-use Rattle.sheet_encoding.specs.declared.parse.Read.{Read}
-use Rattle.sheet_encoding.specs.declared.parse.Read.TheVariants.{Value, No}
+use Rattle.arithmetic_questions.specs.Answers.{Outcome, reported}
 use Rattle.sheet_encoding.specs.Limits.{task_limit, line_limit, output_limit}
 
 -- halvings are at most 64, so that a line has room for them
 abbrev pub Few : {A : Type 0} → Result A → Type 0
 Few (refused k x y) = Unit {0}
 Few (done s a) = s ≤ 64
-
--- the value that was read, and 0 for a refusal
-abbrev pub value_of : Read → ℕ
-value_of (Value v) = v
-value_of (No why) = 0
 
 -- the list w with the part from a on replaced by p
 abbrev pub replaced : {A : Type 0} → List A → ℕ → List A → List A

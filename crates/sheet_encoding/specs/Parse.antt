@@ -1,18 +1,15 @@
 -- What the bytes of a sheet are: its order and the counts of its directions, exponents and tasks, or a refusal. It is read from left to right, and a byte's
 -- presence is asked before its range. Definitions only.
-use Rattle.std.specs.Prelude.{ℕ, zero, suc, ◌+◌, ◌*◌, ◌≤◌, ◌<◌, ◌≡◌, Bool, cond, ◌&&◌, ◌||◌, List, ltb, leb, eqb, length}
-use Rattle.arithmetic_questions.specs.Result.{Result, refused}
+use Rattle.std.specs.Prelude.{ℕ, zero, suc, ◌+◌, ◌*◌, ◌≤◌, ◌<◌, ◌≡◌, Bool, cond, ◌&&◌, ◌||◌, List, ltb, leb, eqb, length, Result, Ok, Err}
+use Rattle.arithmetic_questions.specs.Result.{Found, refused}
 use Rattle.sheet_encoding.specs.declared.parse.SheetRefusal.{SheetRefusal}
 use Rattle.sheet_encoding.specs.declared.parse.SheetRefusal.TheVariants.{ByteMissingOrExtra, OutOfRange, WrongLength}
-use Rattle.sheet_encoding.specs.declared.parse.Read.{Read}
-use Rattle.sheet_encoding.specs.declared.parse.Read.TheVariants.{Value, No}
-use Rattle.sheet_encoding.specs.declared.parse.Parse.{Parse}
-use Rattle.sheet_encoding.specs.declared.parse.Parse.TheVariants.{Sheet, Refused}
+use Rattle.sheet_encoding.specs.declared.parse.Counts.{Counts}
 use Rattle.sheet_encoding.specs.Limits.{task_limit, code_limit}
 use Rattle.sheet_encoding.specs.Bytes.{byte_at}
 
 -- document 01's number of a sheet's refusal, with the position of the byte, or the lengths found and wanted
-abbrev pub sheet_numbered : SheetRefusal → Result (Unit {0})
+abbrev pub sheet_numbered : SheetRefusal → Found
 sheet_numbered (ByteMissingOrExtra p) = refused 15 p 0
 sheet_numbered (OutOfRange p) = refused 16 p 0
 sheet_numbered (WrongLength x y) = refused 5 x y
@@ -50,26 +47,26 @@ sheet_length n d e t = task_at n d e t
 
 -- ---- bytes that are read
 
+-- a number that is read, or why the sheet is refused
+abbrev pub Read : Type 0
+Read = Result ℕ SheetRefusal
+
 -- v, the value of the byte at p, has to lie from lo up to, not including, hi
 abbrev pub value_in : ℕ → ℕ → ℕ → ℕ → Read
-value_in v p lo hi = cond (leb lo v) (cond (ltb v hi) (Value v) (No (OutOfRange p))) (No (OutOfRange p))
+value_in v p lo hi = cond (leb lo v) (cond (ltb v hi) (Ok v) (Err (OutOfRange p))) (Err (OutOfRange p))
 
 -- the byte at p has to be there, and then to lie in its range
 unfoldable pub byte_in : List ℕ → ℕ → ℕ → ℕ → Read
-byte_in s p lo hi = cond (ltb p (length s)) (value_in (byte_at s p) p lo hi) (No (ByteMissingOrExtra p))
+byte_in s p lo hi = cond (ltb p (length s)) (value_in (byte_at s p) p lo hi) (Err (ByteMissingOrExtra p))
 
 -- v, where k bytes from p on are there
 abbrev pub bytes_after : List ℕ → ℕ → ℕ → ℕ → Read
-bytes_after s p k v = cond (leb (p + k) (length s)) (Value v) (No (ByteMissingOrExtra (length s)))
+bytes_after s p k v = cond (leb (p + k) (length s)) (Ok v) (Err (ByteMissingOrExtra (length s)))
 
 -- go on with the value, or stop
-abbrev pub then_read : Read → (ℕ → Read) → Read
-then_read (Value v) k = k v
-then_read (No why) k = No why
-
-abbrev pub then_parse : Read → (ℕ → Parse) → Parse
-then_parse (Value v) k = k v
-then_parse (No why) k = Refused why
+abbrev pub then_read : {A : Type 0} → Read → (ℕ → Result A SheetRefusal) → Result A SheetRefusal
+then_read (Ok v) k = k v
+then_read (Err why) k = Err why
 
 -- a count byte at p, from 0 to 8, and its items, each of `size` bytes: the count
 unfoldable pub section : List ℕ → ℕ → ℕ → Read
@@ -107,34 +104,41 @@ task s q d e = then_read (byte_in s q 0 code_limit) (λ code. byte_in s (q + 1) 
 
 -- k tasks from q on
 unfoldable pub tasks : List ℕ → ℕ → ℕ → ℕ → ℕ → Read
-tasks s q d e zero = Value 0
+tasks s q d e zero = Ok 0
 tasks s q d e (suc k) = then_read (task s q d e) (λ _. tasks s (q + 2) d e k)
 
 -- ---- one section after the other
 
+-- the counts of a sheet, or why it is refused
+abbrev pub Parse : Type 0
+Parse = Result Counts SheetRefusal
+
+abbrev pub counts_of : ℕ → ℕ → ℕ → ℕ → Counts
+counts_of n d e t = record { order = n; directions = d; exponents = e; tasks = t }
+
 -- nothing follows the tasks
 unfoldable pub parse_end : List ℕ → ℕ → ℕ → ℕ → ℕ → Parse
-parse_end s n d e t = cond (leb (length s) (sheet_length n d e t)) (Sheet n d e t) (Refused (ByteMissingOrExtra (sheet_length n d e t)))
+parse_end s n d e t = cond (leb (length s) (sheet_length n d e t)) (Ok (counts_of n d e t)) (Err (ByteMissingOrExtra (sheet_length n d e t)))
 
 -- the t tasks, and the end
 unfoldable pub parse_each : List ℕ → ℕ → ℕ → ℕ → ℕ → Parse
-parse_each s n d e t = then_parse (tasks s (tasks_at n d e + 1) d e t) (λ _. parse_end s n d e t)
+parse_each s n d e t = then_read (tasks s (tasks_at n d e + 1) d e t) (λ _. parse_end s n d e t)
 
 -- the section of the tasks
 unfoldable pub parse_tasks : List ℕ → ℕ → ℕ → ℕ → Parse
-parse_tasks s n d e = then_parse (task_count s n d e) (λ t. parse_each s n d e t)
+parse_tasks s n d e = then_read (task_count s n d e) (λ t. parse_each s n d e t)
 
 -- the section of the exponents, and what follows
 unfoldable pub parse_exponents : List ℕ → ℕ → ℕ → Parse
-parse_exponents s n d = then_parse (exponent_count s n d) (λ e. parse_tasks s n d e)
+parse_exponents s n d = then_read (exponent_count s n d) (λ e. parse_tasks s n d e)
 
 -- the section of the directions, and what follows
 unfoldable pub parse_directions : List ℕ → ℕ → Parse
-parse_directions s n = then_parse (direction_count s n) (λ d. parse_exponents s n d)
+parse_directions s n = then_read (direction_count s n) (λ d. parse_exponents s n d)
 
 -- a whole sheet
 unfoldable pub parse_sheet : List ℕ → Parse
-parse_sheet s = then_parse (order s) (λ n. parse_directions s n)
+parse_sheet s = then_read (order s) (λ n. parse_directions s n)
 
 -- ---- an accepted sheet
 

@@ -77,36 +77,40 @@ fn coded(number: usize, first: usize, second: usize) -> Code
 }
 
 // The number and the details of a refusal.
-fn code_of(why: Refusal) -> Code
-    ensures { numbered why ≡ refused result.number result.first result.second }
-{
-    match why {
-        Refusal::EmptyMatrix => coded(1, 0, 0),
-        Refusal::NotSquare(x, y) => coded(2, x, y),
-        Refusal::CompanionShape(x, y) => coded(3, x, y),
-        Refusal::TooLarge(x, y) => coded(4, x, y),
-        Refusal::WrongLength(x, y) => coded(5, x, y),
-        Refusal::EntryNotFinite(x, y) => coded(6, x, y),
-        Refusal::DirectionNotFinite(x, y) => coded(7, x, y),
-        Refusal::ExponentNotFinite => coded(8, 0, 0),
-        Refusal::PivotOutOfRange(x, y) => coded(9, x, y),
-        Refusal::NotDefined => coded(10, 0, 0),
-        Refusal::OrderOne => coded(11, 0, 0),
-        Refusal::NormNotFinite => coded(12, 0, 0),
-        Refusal::NotConverged => coded(13, 0, 0),
-        Refusal::SingularColumn(x) => coded(14, x, 0),
-        Refusal::TooManyHalvings(x) => coded(17, x, 0),
+impl From<Refusal> for Code {
+    ghost from_gives = { λ why code. numbered why ≡ refused code.number code.first code.second };
+
+    fn from(why: Refusal) -> Code {
+        match why {
+            Refusal::EmptyMatrix => coded(1, 0, 0),
+            Refusal::NotSquare(x, y) => coded(2, x, y),
+            Refusal::CompanionShape(x, y) => coded(3, x, y),
+            Refusal::TooLarge(x, y) => coded(4, x, y),
+            Refusal::WrongLength(x, y) => coded(5, x, y),
+            Refusal::EntryNotFinite(x, y) => coded(6, x, y),
+            Refusal::DirectionNotFinite(x, y) => coded(7, x, y),
+            Refusal::ExponentNotFinite => coded(8, 0, 0),
+            Refusal::PivotOutOfRange(x, y) => coded(9, x, y),
+            Refusal::NotDefined => coded(10, 0, 0),
+            Refusal::OrderOne => coded(11, 0, 0),
+            Refusal::NormNotFinite => coded(12, 0, 0),
+            Refusal::NotConverged => coded(13, 0, 0),
+            Refusal::SingularColumn(x) => coded(14, x, 0),
+            Refusal::TooManyHalvings(x) => coded(17, x, 0),
+        }
     }
 }
 
 // The number and the details of a sheet's refusal.
-pub fn sheet_code_of(why: SheetRefusal) -> Code
-    ensures { sheet_numbered why ≡ refused result.number result.first result.second }
-{
-    match why {
-        SheetRefusal::ByteMissingOrExtra(p) => coded(15, p, 0),
-        SheetRefusal::OutOfRange(p) => coded(16, p, 0),
-        SheetRefusal::WrongLength(x, y) => coded(5, x, y),
+impl From<SheetRefusal> for Code {
+    ghost from_gives = { λ why code. sheet_numbered why ≡ refused code.number code.first code.second };
+
+    fn from(why: SheetRefusal) -> Code {
+        match why {
+            SheetRefusal::ByteMissingOrExtra(p) => coded(15, p, 0),
+            SheetRefusal::OutOfRange(p) => coded(16, p, 0),
+            SheetRefusal::WrongLength(x, y) => coded(5, x, y),
+        }
     }
 }
 
@@ -116,7 +120,7 @@ pub fn put_sheet_refused(out: &mut [u8], why: SheetRefusal) -> usize
     ensures wrote { Wrote out.old 0 (result_line binary64 0 (carrying [] (sheet_numbered why))) out.new result }
     ensures upper_bound { result ≤ 87 }
 {
-    put_refused(out, 0, 0, sheet_code_of(why))
+    put_refused(out, 0, 0, Code::from(why))
 }
 
 // The line of a task with this outcome; where it is done, its outputs are written and then its smallest pivot.
@@ -133,9 +137,7 @@ pub fn put_answer(
     ensures { Lined out.old at (result_line binary64 task (carrying (first.now ++ second.now ++ (smallest ∷ [])) (reported outcome))) out.new result }
 {
     match outcome {
-        Outcome::Done { halvings } => {
-            put_done(out, at, task, halvings as usize, first, second, smallest)
-        }
-        Outcome::Refused(why) => put_refused(out, at, task, code_of(why)),
+        Ok(halvings) => { put_done(out, at, task, halvings as usize, first, second, smallest) }
+        Err(why) => put_refused(out, at, task, Code::from(why)),
     }
 }

@@ -4,9 +4,9 @@ ghost use Rattle.std.specs.Float.{binary64};
 ghost use Rattle.sheet_encoding.specs.Text.{hex_digits, decimal, number_text, field, details_text, numbers_text, glyph as glyph_of};
 ghost use Rattle.sheet_encoding.specs.Kernels.{Wrote};
 
-use arithmetic_floats::float::bits_of;
+use arithmetic_floats::double::bits_of;
 
-const DIGITS: [u8; 16] = *b"0123456789abcdef";
+static DIGITS: [u8; 16] = *b"0123456789abcdef";
 
 // A digit below 16.
 fn glyph(d: u64) -> u8
@@ -25,17 +25,14 @@ pub fn put_byte(out: &mut [u8], at: usize, b: u8) -> usize
     at + 1
 }
 
-// The last hexadecimal digits of n over part, from the last place to the first. Each use of a constant copies it, so the loop reads one copy.
+// The last hexadecimal digits of n over part, from the last place to the first.
 fn write_digits(part: &mut [u8], n: u64)
     ensures { part.new ≡ hex_digits (length part.old) n }
 {
-    let digits = DIGITS;
     let mut rest = n;
-    let mut left = part.len();
-    while 0 < left {
-        left -= 1;
-        part[left] = digits[(rest % 16) as usize];
-        rest = rest / 16;
+    for k in (0..part.len()).rev() {
+        part[k] = DIGITS[(rest % 16) as usize];
+        rest /= 16;
     }
 }
 
@@ -54,6 +51,7 @@ pub fn put_decimal(out: &mut [u8], at: usize, n: usize) -> usize
     requires { at + length (decimal n) ≤ length out.old }
     ensures { Wrote out.old at (decimal n) out.new result }
 {
+    // By recursion, as `decimal` is defined.
     if n < 10 {
         return put_byte(out, at, glyph(n as u64));
     }
@@ -69,25 +67,13 @@ pub fn put_number(out: &mut [u8], at: usize, x: f64) -> usize
     put_hex(out, at, 16, bits_of(x))
 }
 
-// Copies text over part, which is as long.
-fn copy_bytes(text: &[u8], part: &mut [u8])
-    requires { length part.old ≡ length text.now }
-    ensures { part.new ≡ text.now }
-{
-    let mut j = 0;
-    while j < text.len() {
-        part[j] = text[j];
-        j += 1;
-    }
-}
-
 // The bytes of text.
 pub fn put_bytes(out: &mut [u8], at: usize, text: &[u8]) -> usize
     requires { at + length text.now ≤ length out.old }
     ensures { Wrote out.old at text.now out.new result }
 {
     let z = at + text.len();
-    copy_bytes(text, &mut out[at..z]);
+    out[at..z].copy_from_slice(text);
     z
 }
 
@@ -139,10 +125,8 @@ pub fn put_numbers(out: &mut [u8], at: usize, m: &[f64]) -> usize
     ensures value { result ≡ at + 17 * length m.now }
 {
     let mut e = at;
-    let mut i = 0;
-    while i < m.len() {
-        e = put_entry(out, e, m[i]);
-        i += 1;
+    for x in m {
+        e = put_entry(out, e, *x);
     }
     e
 }

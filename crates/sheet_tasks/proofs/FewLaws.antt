@@ -11,9 +11,8 @@ use Rattle.arithmetic_matrices.specs.Product.{times_m, transpose_m}
 use Rattle.arithmetic_matrices.specs.Norm.{norm1}
 use Rattle.arithmetic_questions.specs.Result.{Result, refused, done, ◌>>=◌, outcome}
 use Rattle.arithmetic_questions.specs.Questions.{Call, Profile, asked, answer}
-use Rattle.arithmetic_questions.specs.Answers.{reported}
+use Rattle.arithmetic_questions.specs.Answers.{Outcome, reported}
 use Rattle.arithmetic_questions.specs.Outputs.{Both}
-use Rattle.arithmetic_questions.specs.declared.answer.Outcome.{Outcome}
 use Rattle.functions_definitions.specs.Roots.{square_root}
 use Rattle.functions_definitions.specs.Logarithm.{logarithm}
 use Rattle.functions_definitions.specs.Powers.{halvings_for, exp_m, whole_power, fractional_power, is_whole, power_m}

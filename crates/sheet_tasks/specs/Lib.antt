@@ -1,2 +1,3 @@
 pub mod Tasks
+pub mod Functions
 pub mod Kernels

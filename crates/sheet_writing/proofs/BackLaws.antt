@@ -1,5 +1,5 @@
 -- What is written is read back, and what is read is written back. Assumes nothing.
-use Prim.Native.Nat.{ℕ, suc, ◌+◌, ◌*◌, ◌^◌, ◌≤◌}
+use Prim.Native.Nat.{ℕ, suc, ◌+◌, ◌*◌, ◌≤◌}
 use native.Mathlib.Omega.{arith}
 use native.Mathlib.Nat.{mul_assoc, mul_comm}
 use mathlib.Core.Path.{◌≡◌, refl, sym, ap, ◌∙◌}
@@ -11,6 +11,7 @@ use Rattle.sheet_encoding.specs.Parse.{directions_at, exponents_at, tasks_at, sh
 use Rattle.sheet_encoding.proofs.ParseLaws.{is_sheet}
 use Rattle.sheet_writing.specs.Sections.{Sections, sections_of, number_bytes, sheet_bytes, bytes_at, words_at, sections}
 use Rattle.sheet_writing.specs.Written.{Below, ReadAs}
+use Rattle.sheet_writing.specs.Kernels.{Words}
 use Rattle.sheet_writing.proofs.QuestionLaws.{Accepted}
 use Rattle.sheet_writing.proofs.WordLaws.{length-number_bytes, longer, words_back, bytes_back, bytes_more, number_bytes_lem, bytes_all, length-bytes_at, length-words_at, byte_bytes_at}
 
@@ -71,12 +72,6 @@ sections_accepted s n d e t room h l =
     }
 
 -- ---- what is written is read back
-
--- each number is one of 64 bits
-pub record Words (x : Sections) : Type 0 where
-  pub matrix : Below (256 ^ 8) x.matrix
-  pub direction : Below (256 ^ 8) x.direction
-  pub exponent : Below (256 ^ 8) x.exponent
 
 same_sections : (x : Sections) (a d e ts : List ℕ) → a ≡ x.matrix → d ≡ x.direction → e ≡ x.exponent → ts ≡ x.task → sections_of x.order a x.directions d x.exponents e x.tasks ts ≡ x
 same_sections x a d e ts p q r s = rw (p, q, r, s)

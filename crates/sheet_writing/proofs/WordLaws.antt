@@ -2,39 +2,34 @@
 use Prim.Native.Nat.{ℕ, zero, suc, ◌+◌, ◌*◌, ◌/◌, ◌%◌, ◌^◌, ◌<◌}
 use native.Mathlib.Omega.{arith}
 use native.Mathlib.Numerals.{add-one}
-use native.Mathlib.Nat.{mod-lt, mod-add-div, pow-succ'}
+use native.Mathlib.Nat.{mod-lt, mod-add-div, pow-suc, pow-succ', div-div-eq-div-mul}
 use mathlib.Core.Path.{◌≡◌, refl, sym, ap, ◌∙◌}
 use mathlib.Core.List.{List, [], ◌∷◌, ◌++◌, append_assoc, append-nil}
 use lib.ListN.{length, get_or, take, length-append}
 use lib.Seq.{get_or_at, append_snoc, take-suc}
+use Rattle.std.specs.Int.{w64, to_le_bytes, bytes_low_first}
+use Rattle.std.specs.Int.{byte_at as low_byte}
 use Rattle.sheet_encoding.specs.Bytes.{byte_at, word_at}
 use Rattle.sheet_writing.specs.Sections.{word_bytes, number_bytes, bytes_at, words_at}
 use Rattle.sheet_writing.specs.Written.{Below}
 
--- ---- one byte more, and one number more
+-- ---- the bytes that std gives
 
--- what is left of v after its k lowest bytes
-unfoldable pub above : ℕ → ℕ → ℕ
-above zero v = v
-above (suc k) v = above k (v / 256)
-
-pub above_none : (v : ℕ) → above 0 v ≡ v
-unfolding above
-above_none v = refl
-
-pub above_more : (k v : ℕ) → above (k + 1) v ≡ above k v / 256
-unfolding above
-above_more zero v = refl
-above_more (suc k) v = let z : suc k + 1 ≡ suc (k + 1) = omega arith in rw z (above_more k (v / 256))
-
-pub word_bytes_none : (v : ℕ) → word_bytes 0 v ≡ []
+bytes_low : (i k v : ℕ) → bytes_low_first i k v ≡ word_bytes k (v / 256 ^ i)
 unfolding word_bytes
-word_bytes_none v = refl
+bytes_low i zero v = refl
+bytes_low i (suc k) v =
+    let more : v / 256 ^ suc i ≡ v / 256 ^ i / 256 = rw (div-div-eq-div-mul v (256 ^ i) 256, pow-suc 256 i) in
+    rw (byte_low i v, bytes_low (suc i) k v, more)
+  where
+    byte_low : (i v : ℕ) → low_byte i v ≡ v / 256 ^ i % 256
+    byte_low zero v = let one : v / 1 ≡ v = omega arith in rw one
+    byte_low (suc i) v = refl
 
-pub word_bytes_more : (k v : ℕ) → word_bytes (k + 1) v ≡ word_bytes k v ++ (above k v % 256 ∷ [])
-unfolding word_bytes above
-word_bytes_more zero v = refl
-word_bytes_more (suc k) v = let z : suc k + 1 ≡ suc (k + 1) = omega arith in rw z (ap (λ (l : List ℕ). v % 256 ∷ l) (word_bytes_more k (v / 256)))
+pub le_bytes : (v : ℕ) → to_le_bytes w64 v ≡ word_bytes 8 v
+le_bytes v = let one : v / 1 ≡ v = omega arith in rw one at (bytes_low 0 8 v)
+
+-- ---- one number more
 
 pub number_bytes_none : number_bytes [] ≡ []
 unfolding number_bytes

@@ -8,18 +8,19 @@ use lib.Seq.{take_at}
 use Rattle.arithmetic_questions.specs.Result.{Result, done, passes, exit, outcome, ◌>>=◌}
 use Rattle.sheet_encoding.specs.declared.parse.SheetRefusal.{SheetRefusal}
 use Rattle.sheet_encoding.specs.declared.parse.SheetRefusal.TheVariants.{ByteMissingOrExtra, OutOfRange, WrongLength}
-use Rattle.sheet_encoding.specs.declared.parse.Read.TheVariants.{Value, No}
-use Rattle.sheet_encoding.specs.Parse.{sheet_numbered}
+use Rattle.std.specs.Prelude.{Ok, Err}
+use Rattle.sheet_encoding.specs.Parse.{Read, sheet_numbered}
 use Rattle.sheet_encoding.specs.Kernels.{Wrote}
 use Rattle.sheet_encoding.proofs.ParseLaws.{sheet_is}
 use Rattle.sheet_writing.specs.Sections.{Sections, sheet_bytes}
 use Rattle.sheet_writing.specs.Written.{questions, written, Below, ReadAs, WroteSheet}
+use Rattle.sheet_writing.specs.Kernels.{Words}
 use Rattle.sheet_writing.proofs.QuestionLaws.{Accepted, questions_is, questions_yes}
-use Rattle.sheet_writing.proofs.BackLaws.{Words, bytes_again, sections_accepted, read_again}
+use Rattle.sheet_writing.proofs.BackLaws.{bytes_again, sections_accepted, read_again}
 
 -- ---- what is written, by what the questions found
 
-pub written_yes : (x : Sections) (room v : ℕ) → questions x room ≡ Value v → written x room ≡ done 0 (sheet_bytes x)
+pub written_yes : (x : Sections) (room v : ℕ) → questions x room ≡ Ok v → written x room ≡ done 0 (sheet_bytes x)
 unfolding written ◌>>=◌
 written_yes x room v h = rw h
 
@@ -37,7 +38,7 @@ module _ (g : Unit {0} → Result (List ℕ)) where
   refused_exit (OutOfRange p) read lent = refl
   refused_exit (WrongLength x y) read lent = refl
 
-written_no : (x : Sections) (room : ℕ) (why : SheetRefusal) → questions x room ≡ No why → written x room ≡ (sheet_numbered why >>= λ _. done 0 (sheet_bytes x))
+written_no : (x : Sections) (room : ℕ) (why : SheetRefusal) → questions x room ≡ Err why → written x room ≡ (sheet_numbered why >>= λ _. done 0 (sheet_bytes x))
 unfolding written
 written_no x room why h = rw h
 
@@ -52,11 +53,11 @@ sheet_again s x b r = ap sheet_bytes (sym r.same) ∙ bytes_again s x.order x.di
 
 -- ---- the call
 
-no_value : (v : ℕ) (why : SheetRefusal) → Value v ≡ No why → ⊥
+no_value : (v : ℕ) (why : SheetRefusal) → ◌≡◌ {A = Read} (Ok v) (Err why) → ⊥
 no_value v why h = let z : ◌≡◌ {A = ℕ} 0 1 = cc in omega arith
 
 module _ (x : Sections) (out : List ℕ) where
-  pub wrote_sheet : (out' : List ℕ) (v k : ℕ) → Words x → questions x (length out) ≡ Value v → Wrote out 0 (sheet_bytes x) out' k → WroteSheet x out out' k
+  pub wrote_sheet : (out' : List ℕ) (v k : ℕ) → Words x → questions x (length out) ≡ Ok v → Wrote out 0 (sheet_bytes x) out' k → WroteSheet x out out' k
   unfolding exit
   wrote_sheet out' v k w h o =
       let s : List ℕ = sheet_bytes x in
@@ -70,7 +71,7 @@ module _ (x : Sections) (out : List ℕ) where
         written_back = λ t below r fits. let e : s ≡ t = sheet_again t x below r in (l ∙ ap length e, b ∙ ap (λ (z : List ℕ). z ++ drop (length z) out) e);
       }
 
-  pub refused_sheet : (why : SheetRefusal) → questions x (length out) ≡ No why → WroteSheet x out out 0
+  pub refused_sheet : (why : SheetRefusal) → questions x (length out) ≡ Err why → WroteSheet x out out 0
   refused_sheet why h =
       let y = written_no x (length out) why h in
       let g : Unit {0} → Result (List ℕ) = λ _. done 0 (sheet_bytes x) in
@@ -81,9 +82,9 @@ module _ (x : Sections) (out : List ℕ) where
         written_back = λ t below r fits. let p = questions_yes x (length out) (sheet_passes t x (length out) r fits) in absurd (no_value (length out) why (sym p ∙ h));
       }
 
-  pub refused_found : (why : SheetRefusal) → questions x (length out) ≡ No why → sheet_numbered why ≡ outcome (written x (length out))
+  pub refused_found : (why : SheetRefusal) → questions x (length out) ≡ Err why → sheet_numbered why ≡ outcome (written x (length out))
   refused_found why h = rw (written_no x (length out) why h) (sym (refused_outcome (λ _. done 0 (sheet_bytes x)) why))
 
-  pub wrote_found : (v : ℕ) → questions x (length out) ≡ Value v → passes ≡ outcome (written x (length out))
+  pub wrote_found : (v : ℕ) → questions x (length out) ≡ Ok v → passes ≡ outcome (written x (length out))
   unfolding outcome
   wrote_found v h = rw (written_yes x (length out) v h)

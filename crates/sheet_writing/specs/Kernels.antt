@@ -1,8 +1,9 @@
--- What the functions that write sections ask for. Only the contracts of kernels cite it. Definitions only.
-use Rattle.std.specs.Prelude.{ℕ, ◌*◌, ◌≤◌, ◌≡◌, length}
+-- What the functions that write sections ask for and pass on. Only the contracts of kernels cite it. Definitions only.
+use Rattle.std.specs.Prelude.{ℕ, ◌*◌, ◌^◌, ◌≤◌, ◌≡◌, length}
 use Rattle.sheet_encoding.specs.Limits.{task_limit}
 use Rattle.sheet_encoding.specs.Parse.{sheet_length}
 use Rattle.sheet_writing.specs.Sections.{Sections}
+use Rattle.sheet_writing.specs.Written.{Below}
 
 -- the counts are in their ranges
 pub record InRange (x : Sections) : Type 0 where
@@ -21,3 +22,9 @@ pub record SheetRoom (x : Sections) (room : ℕ) : Type 0 where
   pub exponent : length x.exponent ≡ x.exponents
   pub task : length x.task ≡ 2 * x.tasks
   pub output : sheet_length x.order x.directions x.exponents x.tasks ≤ room
+
+-- each number is one of 64 bits
+pub record Words (x : Sections) : Type 0 where
+  pub matrix : Below (256 ^ 8) x.matrix
+  pub direction : Below (256 ^ 8) x.direction
+  pub exponent : Below (256 ^ 8) x.exponent

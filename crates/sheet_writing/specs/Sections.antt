@@ -1,5 +1,6 @@
 -- What a sheet is made of, its bytes, and what bytes are made of. Definitions only.
 use Rattle.std.specs.Prelude.{ℕ, zero, suc, ◌+◌, ◌*◌, ◌/◌, ◌%◌, List, [], ◌∷◌, ◌++◌}
+use Rattle.sheet_writing.specs.declared.sections.Sections.{Sections as Lent}
 use Rattle.sheet_encoding.specs.Bytes.{byte_at, word_at}
 use Rattle.sheet_encoding.specs.Parse.{directions_at, exponents_at, tasks_at}
 
@@ -16,6 +17,10 @@ pub record Sections : Type 0 where
 
 abbrev pub sections_of : ℕ → List ℕ → ℕ → List ℕ → ℕ → List ℕ → ℕ → List ℕ → Sections
 sections_of n a d ds e es t ts = record { order = n; matrix = a; directions = d; direction = ds; exponents = e; exponent = es; tasks = t; task = ts }
+
+-- those that a call is lent
+abbrev pub given : Lent → Sections
+given x = sections_of x.order x.matrix.now x.directions x.direction.now x.exponents x.exponent.now x.tasks x.task.now
 
 -- ---- to bytes
 

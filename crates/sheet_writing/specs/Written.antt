@@ -1,22 +1,17 @@
 -- What the writer asks of sections, what it writes, and how that is read back. Definitions only.
-use Rattle.std.specs.Prelude.{ℕ, zero, suc, ◌+◌, ◌*◌, ◌≤◌, ◌<◌, ◌≡◌, cond, List, [], ◌∷◌, ◌++◌, ltb, leb, eqb, length, take, drop, get_or}
+use Rattle.std.specs.Prelude.{ℕ, zero, suc, ◌+◌, ◌*◌, ◌≤◌, ◌<◌, ◌≡◌, cond, List, [], ◌∷◌, ◌++◌, ltb, leb, eqb, length, take, drop, get_or, Ok, Err}
 use Rattle.arithmetic_questions.specs.Result.{Result, Found, refused, done, passes, exit, ◌>>=◌}
 use Rattle.sheet_encoding.specs.declared.parse.SheetRefusal.TheVariants.{WrongLength}
-use Rattle.sheet_encoding.specs.declared.parse.Read.{Read}
-use Rattle.sheet_encoding.specs.declared.parse.Read.TheVariants.{Value, No}
-use Rattle.sheet_encoding.specs.declared.parse.Parse.TheVariants.{Sheet}
 use Rattle.sheet_encoding.specs.Limits.{task_limit, code_limit}
 use Rattle.sheet_encoding.specs.Bytes.{byte_at}
-use Rattle.sheet_encoding.specs.Parse.{sheet_numbered, value_in, then_read, index_limit, directions_at, exponents_at, tasks_at, sheet_length, parse_sheet}
-use Rattle.sheet_writing.specs.declared.write.Written.{Written}
-use Rattle.sheet_writing.specs.declared.write.Written.TheVariants.{Length, Refused}
+use Rattle.sheet_encoding.specs.Parse.{Read, sheet_numbered, counts_of, value_in, then_read, index_limit, directions_at, exponents_at, tasks_at, sheet_length, parse_sheet}
 use Rattle.sheet_writing.specs.Sections.{Sections, sheet_bytes, sections}
 
 -- ---- 16: is each count, code and index in its range? The first from the left that is not is named by the position that its byte would have.
 
 -- byte j of the tasks, which would stand at p, where the slice reaches it, lies below hi
 abbrev pub given_in : List ℕ → ℕ → ℕ → ℕ → Read
-given_in ts j p hi = cond (ltb j (length ts)) (value_in (byte_at ts j) p 0 hi) (Value 0)
+given_in ts j p hi = cond (ltb j (length ts)) (value_in (byte_at ts j) p 0 hi) (Ok 0)
 
 -- the task at j of the tasks, the first of which would stand at q: its code, and its index
 unfoldable pub given_task : List ℕ → ℕ → ℕ → ℕ → ℕ → Read
@@ -24,7 +19,7 @@ given_task ts q d e j = then_read (given_in ts j (q + j) code_limit) (λ code. g
 
 -- k tasks from j on
 unfoldable pub given_tasks : List ℕ → ℕ → ℕ → ℕ → ℕ → ℕ → Read
-given_tasks ts q d e j zero = Value 0
+given_tasks ts q d e j zero = Ok 0
 given_tasks ts q d e j (suc k) = then_read (given_task ts q d e j) (λ _. given_tasks ts q d e (j + 2) k)
 
 -- the count of the tasks, and the tasks as far as it and the slice reach
@@ -43,11 +38,11 @@ ranges x =
 
 -- a length that has to be the one wanted
 abbrev pub exactly : ℕ → ℕ → Read
-exactly wanted found = cond (eqb found wanted) (Value found) (No (WrongLength found wanted))
+exactly wanted found = cond (eqb found wanted) (Ok found) (Err (WrongLength found wanted))
 
 -- a length that has to be the one wanted, or more
 abbrev pub at_least : ℕ → ℕ → Read
-at_least wanted found = cond (leb wanted found) (Value found) (No (WrongLength found wanted))
+at_least wanted found = cond (leb wanted found) (Ok found) (Err (WrongLength found wanted))
 
 -- from A to the output
 unfoldable pub lengths : Sections → ℕ → Read
@@ -64,10 +59,10 @@ questions x room = then_read (ranges x) (λ _. lengths x room)
 
 -- ---- what is written for the sections x into an output of `room` bytes
 
--- what the questions find: a refusal by its number, or they pass
+-- what the questions find, and what a call answers: a refusal by its number, or they pass
 abbrev pub found : Read → Found
-found (Value v) = passes
-found (No why) = sheet_numbered why
+found (Ok v) = passes
+found (Err why) = sheet_numbered why
 
 -- the bytes of the sheet, or the refusal
 unfoldable pub written : Sections → ℕ → Result (List ℕ)
@@ -75,15 +70,10 @@ written x room = found (questions x room) >>= λ _. done 0 (sheet_bytes x)
 
 -- ---- what a call answers: the length, or a refusal
 
--- its outcome, a refusal by its number
-abbrev pub found_by : Written → Found
-found_by (Length k) = passes
-found_by (Refused why) = sheet_numbered why
-
 -- the length, and 0 beside a refusal; a sheet has at least 14 bytes
-abbrev pub length_by : Written → ℕ
-length_by (Length k) = k
-length_by (Refused why) = 0
+abbrev pub length_by : Read → ℕ
+length_by (Ok k) = k
+length_by (Err why) = 0
 
 -- what the exported entry leaves in its three numbers: a refusal's number and details, or zeros
 abbrev pub why_of : Found → List ℕ
@@ -98,7 +88,7 @@ Below h l = (i : ℕ) → get_or l i 0 < h
 
 -- s is a sheet that the reader accepts, and x its sections, bit for bit
 pub record ReadAs (s : List ℕ) (x : Sections) : Type 0 where
-  pub accepted : parse_sheet s ≡ Sheet x.order x.directions x.exponents x.tasks
+  pub accepted : parse_sheet s ≡ Ok (counts_of x.order x.directions x.exponents x.tasks)
   pub same : sections s x.order x.directions x.exponents x.tasks ≡ x
 
 -- The writer was given the sections x and the output `out`, left it as `out'`, and reported the length k, 0 where it refused. The output begins with what is

@@ -3,6 +3,8 @@
 
 mod bytes;
 mod questions;
+mod sections;
 mod write;
 
-pub use write::{Written, write_sheet};
+pub use sections::Sections;
+pub use write::write_sheet;

@@ -7,16 +7,13 @@ ghost use Rattle.std.specs.Prelude.{◌≡◌, ◌<◌, length};
 
 mod compare;
 
-use compare::{
-    LENT, LENT_BYTE, LENT_ROOM, are_all, are_all_bytes, is_cleared, is_done, is_identity,
-    is_not_converged, same,
-};
+use compare::{LENT, LENT_BYTE, LENT_ROOM, is_done, is_identity, is_not_converged};
 use functions::{cond_expm, powm};
 use sheet::axis_sheet;
 use std::io;
 use std::io::Write;
-use vectors_recorded::begins;
-use vectors_recorded::tally::{Tally, judged, next};
+use vectors_recorded::tally::{Tally, Verdict, next};
+use vectors_recorded::{are_all, is_cleared, same};
 
 // A workspace with one number more than a call clears.
 fn workspace_room() -> [f64; 8193]
@@ -32,11 +29,15 @@ fn line_room() -> [u8; 35500]
     [LENT_BYTE; 35500]
 }
 
+// Whether w is a workspace that a call has cleared: its first 8,192 numbers are +0, the last is as it was lent.
+fn is_workspace_cleared(w: &[f64]) -> bool {
+    is_cleared(w, 8192, LENT_ROOM)
+}
+
 // powm of the zero matrix a of order n, p = -1: refused by 13, the output as it was lent.
 fn inverse_is_refused(n: usize, a: &[f64], out: &mut [f64], w: &mut [f64]) -> bool {
     let answer = powm(n, n, a, -1.0, out, w);
-    let outcome = answer.outcome;
-    is_not_converged(outcome) && are_all(out, LENT) && is_cleared(w)
+    is_not_converged(answer.outcome) && are_all(out, LENT) && is_workspace_cleared(w)
 }
 
 // powm of the zero matrix a of order n, p = 0: the identity.
@@ -44,23 +45,22 @@ fn power_is_identity(n: usize, a: &[f64], out: &mut [f64], w: &mut [f64]) -> boo
     requires { 0 < n }
 {
     let answer = powm(n, n, a, 0.0, out, w);
-    let outcome = answer.outcome;
-    is_done(outcome) && is_identity(out, n) && is_cleared(w)
+    is_done(answer.outcome) && is_identity(out, n) && is_workspace_cleared(w)
 }
 
 // cond_expm of the zero matrix a of order 4: 0.5, the derivative's norm 1 over the exponential's 2.
 fn ratio_is_half(a: &[f64], w: &mut [f64]) -> bool {
     let answer = cond_expm(4, 4, a, w);
-    let outcome = answer.outcome;
     let condition = answer.condition;
     let norms = same(condition.derivative_norm, 1.0) && same(condition.exponential_norm, 2.0);
-    is_done(outcome) && same(condition.ratio, 0.5) && norms && is_cleared(w)
+    is_done(answer.outcome) && same(condition.ratio, 0.5) && norms && is_workspace_cleared(w)
 }
 
 // The entry on a sheet: the line is written and counted, and no byte after it.
 fn line_is_written(sheet: &[u8], line: &[u8], out: &mut [u8]) -> bool {
     let n = axis_sheet(sheet, out);
-    n == line.len() && begins(out, line) && are_all_bytes(&out[n..], LENT_BYTE)
+    let (written, others) = out.split_at(n);
+    written == line && others.iter().all(|byte| *byte == LENT_BYTE)
 }
 
 fn run_inverse() -> bool {
@@ -108,11 +108,11 @@ fn report<W: Write>(out: &mut W, tally: Tally, name: &[u8], as_wanted: bool) -> 
     } else {
         out.write_all(b": differs\n")?;
     }
-    Ok(tally.with(judged(as_wanted), next(tally.calls)))
+    Ok(tally.with(Verdict::from(as_wanted), next(tally.calls)))
 }
 
 fn run_lines<W: Write>(out: &mut W) -> io::Result<Tally> {
-    let none = Tally::empty();
+    let none = Tally::default();
     let a = report(out, none, b"powm of zero, order 2, p -1", run_inverse())?;
     let b = report(out, a, b"powm of zero, order 2, p 0", run_identity())?;
     let c = report(out, b, b"powm of zero, order 8, p 0", run_wide_identity())?;

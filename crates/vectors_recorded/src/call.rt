@@ -1,11 +1,12 @@
-// A recorded vector's call: its counts, and its lists of numbers in room that the caller lends.
-ghost use Rattle.std.specs.Prelude.{◌≡◌, ◌≤◌, length};
+// A recorded vector's call.
+ghost use Rattle.vectors_recorded.specs.Remaining.{IsEndOf};
 
-use crate::{counts, number_of, numbers, word};
+use crate::reader::Reader;
+use crate::width::Width;
 
-// The counts of a call and its exponent, and where its lists start.
+// The counts of a call, and its exponent.
 #[derive(Clone, Copy)]
-pub struct Shape {
+pub struct Shape<T> {
     pub rows: usize,
     pub columns: usize,
     pub height: usize,
@@ -13,88 +14,21 @@ pub struct Shape {
     pub output: usize,
     pub second: usize,
     pub room: usize,
-    pub exponent: f64,
-    pub next: usize,
+    pub exponent: T,
 }
 
-// How many members of a list were read, and where the next list starts; no members where they do not fit.
-#[derive(Clone, Copy)]
-pub struct List {
-    pub count: usize,
-    pub next: usize,
-    pub fits: bool,
-}
-
-fn count_room() -> [usize; 8]
-    ensures { 8 ≡ length result }
+// Reads the counts and then the exponent by its bits.
+pub fn read_shape<T: Width>(reader: &mut Reader) -> Shape<T>
+    ensures { IsEndOf reader.old.rest.now reader.new.rest.now }
 {
-    [0usize; 8]
-}
-
-// The counts at `at`, of which the last is the exponent by its bits.
-pub fn read_shape(s: &[u8], at: usize) -> Shape
-    requires { at ≤ length s.now }
-    ensures { result.next ≤ length s.now }
-{
-    let mut x = count_room();
-    let next = counts(s, at, &mut x);
     Shape {
-        rows: x[0],
-        columns: x[1],
-        height: x[2],
-        width: x[3],
-        output: x[4],
-        second: x[5],
-        room: x[6],
-        exponent: number_of(x[7] as u64),
-        next,
-    }
-}
-
-// Reads a list of numbers to the start of `into`.
-pub fn number_list(s: &[u8], at: usize, into: &mut [f64]) -> List
-    requires { at ≤ length s.now }
-    ensures { (result.count ≤ length into.new) × (result.next ≤ length s.now) }
-{
-    let length = word(s, at);
-    let n = length.value as usize;
-    let next = length.next;
-    if n <= into.len() {
-        let end = numbers(s, next, &mut into[..n]);
-        List {
-            count: n,
-            next: end,
-            fits: true,
-        }
-    } else {
-        List {
-            count: 0,
-            next,
-            fits: false,
-        }
-    }
-}
-
-// Reads a list of whole numbers to the start of `into`.
-pub fn count_list(s: &[u8], at: usize, into: &mut [usize]) -> List
-    requires { at ≤ length s.now }
-    ensures { (result.count ≤ length into.new) × (result.next ≤ length s.now) }
-{
-    let length = word(s, at);
-    let n = length.value as usize;
-    let next = length.next;
-    if n <= into.len() {
-        let end = counts(s, next, &mut into[..n]);
-        List {
-            count: n,
-            next: end,
-            fits: true,
-        }
-    } else {
-        List {
-            count: 0,
-            next,
-            fits: false,
-        }
+        rows: reader.word() as usize,
+        columns: reader.word() as usize,
+        height: reader.word() as usize,
+        width: reader.word() as usize,
+        output: reader.word() as usize,
+        second: reader.word() as usize,
+        room: reader.word() as usize,
+        exponent: T::of_bits(reader.word()),
     }
 }

@@ -2,7 +2,7 @@
 use std::io;
 use std::io::Write;
 
-// What a vector shows. It is skipped where its lists are longer than the room that the program keeps.
+// What a vector shows. It is skipped where its lists are longer than what the program runs.
 #[derive(Clone, Copy)]
 pub enum Verdict {
     Same,
@@ -10,29 +10,23 @@ pub enum Verdict {
     Skipped,
 }
 
-pub fn judged(same: bool) -> Verdict {
-    if same {
-        Verdict::Same
-    } else {
-        Verdict::Differs
+impl From<bool> for Verdict {
+    fn from(same: bool) -> Verdict {
+        if same {
+            Verdict::Same
+        } else {
+            Verdict::Differs
+        }
     }
 }
 
 // How many vectors there are, how many of them differ, how many are skipped, and the line of the first that differs.
-#[derive(Clone, Copy)]
+#[derive(Clone, Copy, Default)]
 pub struct Tally {
     pub calls: u64,
     pub differ: u64,
     pub skipped: u64,
-    pub first: u64,
-}
-
-// The counts, and where the vectors that were not run start: their line and their place in the text.
-#[derive(Clone, Copy)]
-pub struct Progress {
-    pub tally: Tally,
-    pub line: u64,
-    pub at: usize,
+    pub first: Option<u64>,
 }
 
 // One more; counts stay below 2^63.
@@ -41,37 +35,21 @@ pub fn next(count: u64) -> u64 {
 }
 
 impl Tally {
-    // No vectors.
-    pub fn empty() -> Tally {
-        Tally {
-            calls: 0,
-            differ: 0,
-            skipped: 0,
-            first: 0,
-        }
-    }
-
     // With one more vector, which stands on this line.
     pub fn with(self, verdict: Verdict, line: u64) -> Tally {
         let calls = next(self.calls);
         match verdict {
-            Verdict::Same => Tally {
-                calls,
-                differ: self.differ,
-                skipped: self.skipped,
-                first: self.first,
-            },
+            Verdict::Same => Tally { calls, ..self },
             Verdict::Differs => Tally {
                 calls,
                 differ: next(self.differ),
-                skipped: self.skipped,
-                first: if self.differ == 0 { line } else { self.first },
+                first: self.first.or(Some(line)),
+                ..self
             },
             Verdict::Skipped => Tally {
                 calls,
-                differ: self.differ,
                 skipped: next(self.skipped),
-                first: self.first,
+                ..self
             },
         }
     }
@@ -81,24 +59,14 @@ impl Tally {
 pub fn write_tally<W: Write>(out: &mut W, name: &[u8], tally: Tally) -> io::Result<()> {
     let calls = tally.calls;
     let differ = tally.differ;
-    let first = tally.first;
     let skipped = tally.skipped;
     out.write_all(name)?;
     write!(out, ": {calls} calls, {differ} differ")?;
-    if differ != 0 {
+    if let Some(first) = tally.first {
         write!(out, ", the first on line {first}")?;
     }
     if skipped != 0 {
         write!(out, ", skipped: {skipped}")?;
     }
     out.write_all(b"\n")
-}
-
-// Says where vectors stand that were not run, if any.
-pub fn write_rest<W: Write>(out: &mut W, text: &[u8], progress: Progress) -> io::Result<()> {
-    let line = progress.line;
-    if progress.at < text.len() {
-        write!(out, "not run from line {line} on\n")?;
-    }
-    Ok(())
 }

@@ -2,7 +2,6 @@
 use native.Mathlib.Omega.{arith}
 use mathlib.Core.Path.{sym, ◌∙◌}
 use lib.ListN.{length}
-use lib.Ieee.{binary64}
 use Rattle.arithmetic_questions.specs.Result.{done}
 use Rattle.arithmetic_questions.specs.Questions.{of_kron}
 use Rattle.functions_definitions.specs.Kronecker.{kron_m}
@@ -14,31 +13,31 @@ use Rattle.arithmetic_questions.proofs.ReportLaws.{report_refused, report_done}
 use Rattle.functions_kronecker.proofs.kron.Goals as goal
 
 pub kron_into-requires : goal.kron_into-requires
-kron_into-requires c =
+kron_into-requires g c =
     let a = c.args in
     let asked = c.ask_kron in
-    let f = kron_fitting a.m a.n a.a.now a.p a.q a.b.now (length a.out.now) asked.result c.in-Passed.is asked.ensures in
-    omega arith
+    let f = kron_fitting a.m a.n (g.T.Real.floats a.a.now) a.p a.q (g.T.Real.floats a.b.now) (length a.out.now) asked.result c.in-Ok.is asked.ensures in
+    omega (arith, g.met.T.Real.length_law a.a.now, g.met.T.Real.length_law a.b.now)
 
-pub returns-in-No : goal.returns-in-No
+pub returns-in-Err : goal.returns-in-Err
 unfolding kron
-returns-in-No c =
+returns-in-Err g c =
     let a = c.args in
     let asked = c.ask_kron in
-    let R = output_refused of_kron (call a.m a.n a.a.now a.p a.q a.b.now (length a.out.now)) asked.result asked.ensures c.refused.result.outcome a.out.now
-    (done 0 (kron_m binary64 a.m a.n a.a.now a.p a.q a.b.now)) _ c.in-No.is c.refused.ensures.outcome_value in
+    let R = output_refused of_kron (call a.m a.n (g.T.Real.floats a.a.now) a.p a.q (g.T.Real.floats a.b.now) (length a.out.now)) asked.result asked.ensures c.refused.result.outcome (g.T.Real.floats a.out.now)
+    (done 0 (kron_m g.T.Real.format a.m a.n (g.T.Real.floats a.a.now) a.p a.q (g.T.Real.floats a.b.now))) _ c.in-Err.is c.refused.ensures.outcome_value in
     record {
       one_output = R;
-      report_value = report_refused _ nothing _ c.refused.result.outcome c.in-No.why R.outcome c.refused.ensures.outcome_value c.refused.ensures.report_value;
+      report_value = report_refused _ nothing _ c.refused.result.outcome c.in-Err.why R.outcome c.refused.ensures.outcome_value c.refused.ensures.report_value;
     }
 
-pub returns-in-Passed : goal.returns-in-Passed
+pub returns-in-Ok : goal.returns-in-Ok
 unfolding kron
-returns-in-Passed c =
+returns-in-Ok g c =
     let a = c.args in
     let asked = c.ask_kron in
-    let R = output_done of_kron (call a.m a.n a.a.now a.p a.q a.b.now (length a.out.now)) asked.result asked.ensures c.done.result.outcome a.out.now
-    0 (kron_m binary64 a.m a.n a.a.now a.p a.q a.b.now) _ c.in-Passed.is c.done.ensures.outcome_value c.kron_into.ensures in
+    let R = output_done of_kron (call a.m a.n (g.T.Real.floats a.a.now) a.p a.q (g.T.Real.floats a.b.now) (length a.out.now)) asked.result asked.ensures c.done.result.outcome (g.T.Real.floats a.out.now)
+    0 (kron_m g.T.Real.format a.m a.n (g.T.Real.floats a.a.now) a.p a.q (g.T.Real.floats a.b.now)) _ c.in-Ok.is c.done.ensures.outcome_value c.kron_into.ensures in
     record {
       one_output = R;
       report_value = c.done.ensures.report_value ∙ report_done _ nothing 0 (sym c.done.ensures.outcome_value ∙ R.outcome);

@@ -1,14 +1,10 @@
--- `column_sum_minus_identity` meets its contract, by a walk down the column and the loop of a sum. Assumes nothing.
-use Prim.Native.Nat.{◌+◌, ◌-◌, ◌*◌}
-use lib.Ieee.{binary64}
+-- `column_sum_minus_identity` meets its contract, by the loop of a sum. Assumes nothing.
+use Prim.Native.Nat.{◌+◌, ◌*◌}
 use Rattle.arithmetic_floats.specs.Float.{magnitude}
 use Rattle.arithmetic_matrices.specs.Matrix.{item}
 use Rattle.arithmetic_matrices.specs.Product.{minus_identity_entry}
-use Rattle.arithmetic_matrices.proofs.LoopLaws.{Down, PartialSum}
+use Rattle.arithmetic_matrices.proofs.SeenSums.{PartialSum}
 use Rattle.arithmetic_matrices.proofs.norm.column_sum_minus_identity.Given as goal
 
 abbrev pub invariant-loop-i : goal.invariant-loop-i
-invariant-loop-i l = Down l.x l.n l.j l.q l.i × PartialSum binary64 l.n (λ k. magnitude (minus_identity_entry binary64 k l.j (item l.w (l.x + (k * l.n + l.j))))) l.sum l.i
-
-abbrev pub decreases-loop-i : goal.decreases-loop-i
-decreases-loop-i l = l.n - l.i
+invariant-loop-i g l = PartialSum g.T.Real.format l.n (λ k. magnitude (minus_identity_entry g.T.Real.format k l.j (item (g.T.Real.floats l.w) (l.x + (k * l.n + l.j))))) (g.T.Real.float l.sum) l.i

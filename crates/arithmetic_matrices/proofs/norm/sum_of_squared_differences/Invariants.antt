@@ -1,16 +1,9 @@
 -- `sum_of_squared_differences` meets its contract, by the loop of a sum. Assumes nothing.
-use Prim.Native.Nat.{ℕ, ◌+◌, ◌-◌}
-use mathlib.Core.List.{List}
-use lib.Ieee.{Float, binary64, sub, mul}
+use Prim.Native.Nat.{◌+◌}
+use lib.Ieee.{sub, mul}
 use Rattle.arithmetic_matrices.specs.Matrix.{item}
-use Rattle.arithmetic_matrices.proofs.LoopLaws.{PartialSum}
+use Rattle.arithmetic_matrices.proofs.SeenSums.{PartialSum}
 use Rattle.arithmetic_matrices.proofs.norm.sum_of_squared_differences.Given as goal
 
-abbrev difference : List Float → ℕ → ℕ → ℕ → Float
-difference w x y i = sub binary64 (item w (x + i)) (item w (y + i))
-
 abbrev pub invariant-loop-i : goal.invariant-loop-i
-invariant-loop-i l = PartialSum binary64 l.k (λ q. mul binary64 (difference l.w l.x l.y q) (difference l.w l.x l.y q)) l.sum l.i
-
-abbrev pub decreases-loop-i : goal.decreases-loop-i
-decreases-loop-i l = l.k - l.i
+invariant-loop-i g l = PartialSum g.T.Real.format l.k (λ q. mul g.T.Real.format (sub g.T.Real.format (item (g.T.Real.floats l.w) (l.x + q)) (item (g.T.Real.floats l.w) (l.y + q))) (sub g.T.Real.format (item (g.T.Real.floats l.w) (l.x + q)) (item (g.T.Real.floats l.w) (l.y + q)))) (g.T.Real.float l.sum) l.i

@@ -1,12 +1,9 @@
 -- `sum_of_squares` meets its contract, by the loop of a sum. Assumes nothing.
-use Prim.Native.Nat.{◌+◌, ◌-◌}
-use lib.Ieee.{binary64, mul}
+use Prim.Native.Nat.{◌+◌}
+use lib.Ieee.{mul}
 use Rattle.arithmetic_matrices.specs.Matrix.{item}
-use Rattle.arithmetic_matrices.proofs.LoopLaws.{PartialSum}
+use Rattle.arithmetic_matrices.proofs.SeenSums.{PartialSum}
 use Rattle.arithmetic_matrices.proofs.norm.sum_of_squares.Given as goal
 
 abbrev pub invariant-loop-i : goal.invariant-loop-i
-invariant-loop-i l = PartialSum binary64 l.k (λ q. mul binary64 (item l.w (l.x + q)) (item l.w (l.x + q))) l.sum l.i
-
-abbrev pub decreases-loop-i : goal.decreases-loop-i
-decreases-loop-i l = l.k - l.i
+invariant-loop-i g l = PartialSum g.T.Real.format l.k (λ q. mul g.T.Real.format (item (g.T.Real.floats l.w) (l.x + q)) (item (g.T.Real.floats l.w) (l.x + q))) (g.T.Real.float l.sum) l.i

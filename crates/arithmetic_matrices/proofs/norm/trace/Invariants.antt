@@ -1,12 +1,8 @@
--- `trace` meets its contract, by a walk down the diagonal and the loop of a sum. Assumes nothing.
-use Prim.Native.Nat.{◌+◌, ◌-◌, ◌*◌}
-use lib.Ieee.{binary64}
+-- `trace` meets its contract, by the loop of a sum. Assumes nothing.
+use Prim.Native.Nat.{◌+◌, ◌*◌}
 use Rattle.arithmetic_matrices.specs.Matrix.{item}
-use Rattle.arithmetic_matrices.proofs.LoopLaws.{Diagonal, PartialSum}
+use Rattle.arithmetic_matrices.proofs.SeenSums.{PartialSum}
 use Rattle.arithmetic_matrices.proofs.norm.trace.Given as goal
 
 abbrev pub invariant-loop-i : goal.invariant-loop-i
-invariant-loop-i l = Diagonal (256 * l.a) l.n l.q l.i × PartialSum binary64 l.n (λ k. item l.w (256 * l.a + (k * l.n + k))) l.sum l.i
-
-abbrev pub decreases-loop-i : goal.decreases-loop-i
-decreases-loop-i l = l.n - l.i
+invariant-loop-i g l = PartialSum g.T.Real.format l.n (λ k. item (g.T.Real.floats l.w) (l.x + (k * l.n + k))) (g.T.Real.float l.sum) l.i

@@ -3,58 +3,42 @@ use Prim.Native.Nat.{◌+◌, ◌*◌, ◌≤◌}
 use native.Mathlib.Omega.{arith}
 use native.Mathlib.Nat.{zero-mul}
 use mathlib.Core.Path.{◌≡◌, refl, ◌∙◌}
-use lib.Ieee.{binary64}
-use Rattle.arithmetic_matrices.specs.Matrix.{Apart}
 use Rattle.arithmetic_matrices.proofs.MatrixLaws.{row_end, more_rows}
 use Rattle.arithmetic_matrices.proofs.PartLaws.{put_no_row, apart_within}
 use Rattle.arithmetic_matrices.proofs.ProductLaws.{mul_m_parts, mul_m_row}
 use Rattle.arithmetic_matrices.proofs.product.mat_mult.Goals as goal
 
 pub loop-i-init : goal.loop-i-init
-loop-i-init c = (omega arith, refl, omega (arith, zero-mul c.args.n), omega (arith, zero-mul c.args.n), put_no_row _ _ _ _)
+loop-i-init g c = (omega arith, refl, omega (arith, zero-mul c.args.n), omega (arith, zero-mul c.args.n), put_no_row _ _ _ _)
 
--- and is apart from what it is written to
-apart : (c : goal.After-mult_row-arg-1) →
-    Apart c.loop-i.x c.args.n c.loop-i.y c.args.n
-apart c =
-    let r = (let it : c.loop-i.i * c.args.n + c.args.n ≤ c.args.n * c.args.n = row_end c.loop-i.i c.args.n c.args.n c.loop-i-test.true in it) in
-    apart_within _ _ _ _ _ _ _ _ c.requires.apart.0 (omega arith) (omega arith) (omega arith) (omega arith)
-
-apart-b : (c : goal.After-mult_row-arg-1) →
-    Apart c.args.b (c.args.n * c.args.n) c.loop-i.y c.args.n
-apart-b c =
-    let r = (let it : c.loop-i.i * c.args.n + c.args.n ≤ c.args.n * c.args.n = row_end c.loop-i.i c.args.n c.args.n c.loop-i-test.true in it) in
-    apart_within _ _ _ _ _ _ _ _ c.requires.apart.1 (omega arith) (omega arith) (omega arith) (omega arith)
-
+-- the rows that the turn reads and writes
 pub mult_row-requires : goal.mult_row-requires
-mult_row-requires c =
-    let r = (let it : c.loop-i.i * c.args.n + c.args.n ≤ c.args.n * c.args.n = row_end c.loop-i.i c.args.n c.args.n c.loop-i-test.true in it) in
+mult_row-requires g c =
+    let rows : c.loop-i.i * c.args.n + c.args.n ≤ c.args.n * c.args.n = row_end c.loop-i.i c.args.n c.args.n c.loop-i-test.true in
     record {
       n_bound = omega arith;
-      apart = (apart c, apart-b c);
+      apart = (
+        apart_within _ _ _ _ _ _ _ _ c.requires.apart.0 (omega arith) (omega arith) (omega arith) (omega arith),
+        apart_within _ _ _ _ _ _ _ _ c.requires.apart.1 (omega arith) (omega arith) (omega arith) (omega arith),
+      );
     }
 
-pub overflow_add-x : goal.overflow_add-x
-overflow_add-x c = omega (arith, (let it : c.loop-i.i * c.args.n + c.args.n ≤ c.args.n * c.args.n = row_end c.loop-i.i c.args.n c.args.n c.loop-i-test.true in it))
-
-pub overflow_add-y : goal.overflow_add-y
-overflow_add-y c = omega (arith, (let it : c.loop-i.i * c.args.n + c.args.n ≤ c.args.n * c.args.n = row_end c.loop-i.i c.args.n c.args.n c.loop-i-test.true in it))
-
 pub loop-i-preserved : goal.loop-i-preserved
-loop-i-preserved c =
+loop-i-preserved g c =
     let l = c.loop-i in
     let a = c.args in
+    let w = g.T.Real.floats a.w.now in
     let pre = c.requires in
     let m = more_rows l.i a.n in (
       omega arith,
       c.mult_row.auto.w ∙ l.invariant.1,
       omega arith,
       omega arith,
-      rw (c.mult_row.ensures, l.invariant.2, l.invariant.3, l.invariant.4) (mul_m_row binary64 a.n a.w.now a.a a.b a.c l.i c.loop-i-test.true pre.apart.0 pre.apart.1),
+      rw (c.mult_row.ensures, l.invariant.2, l.invariant.3, l.invariant.4) (mul_m_row g.T.Real.format a.n w a.a a.b a.c l.i c.loop-i-test.true pre.apart.0 pre.apart.1),
     )
 
 pub returns : goal.returns
-returns c =
+returns g c =
     let e : c.loop-i.i ≡ c.args.n = omega arith in
     let a = c.args in
-    rw (mul_m_parts binary64 a.n a.w.now a.a a.b) (rw e at c.loop-i.invariant.4)
+    rw (mul_m_parts g.T.Real.format a.n (g.T.Real.floats a.w.now) a.a a.b) (rw e at c.loop-i.invariant.4)

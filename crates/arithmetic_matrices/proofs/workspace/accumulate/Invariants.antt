@@ -1,13 +1,9 @@
 -- `accumulate` meets its contract, by the loop over the entries of a slot. Assumes nothing.
-use Prim.Native.Nat.{◌-◌}
-use lib.Ieee.{binary64, add, mul}
+use lib.Ieee.{add, mul}
 use Rattle.arithmetic_matrices.specs.Matrix.{item}
 use Rattle.arithmetic_matrices.specs.Workspace.{slot}
 use Rattle.arithmetic_matrices.proofs.LoopLaws.{SlotEntries}
 use Rattle.arithmetic_matrices.proofs.workspace.accumulate.Given as goal
 
 abbrev pub invariant-loop-k : goal.invariant-loop-k
-invariant-loop-k l = SlotEntries l.n l.c (λ i. add binary64 (item (slot l.n l.initial.w l.c) i) (mul binary64 (item (slot l.n l.initial.w l.p) i) l.by)) l.initial.w l.w l.k
-
-abbrev pub decreases-loop-k : goal.decreases-loop-k
-decreases-loop-k l = l.m - l.k
+invariant-loop-k g l = SlotEntries l.n l.c (λ i. add g.T.Real.format (item (slot l.n (g.T.Real.floats l.initial.w) l.c) i) (mul g.T.Real.format (item (slot l.n (g.T.Real.floats l.initial.w) l.p) i) (g.T.Real.float l.by))) (g.T.Real.floats l.initial.w) (g.T.Real.floats l.w) l.k

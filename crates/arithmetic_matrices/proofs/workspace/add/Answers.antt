@@ -1,24 +1,24 @@
 -- `add` meets its contract, by the loop over the entries of a slot. Assumes nothing.
-use native.Mathlib.Omega.{arith}
-use lib.Ieee.{binary64, add as sum_of}
+use mathlib.Core.Path.{◌∙◌}
+use Rattle.std.proofs.Common.{rules}
+use lib.Ieee.{add as sum_of}
 use Rattle.arithmetic_matrices.specs.Product.{add_m}
-use Rattle.arithmetic_matrices.proofs.LoopLaws.{room_few, entries_start, entries_turn, entries_end, own_entry, other_entry}
+use Rattle.arithmetic_matrices.proofs.LoopLaws.{entries_start, entries_end, own_entry, other_entry}
+use Rattle.arithmetic_matrices.proofs.SeenEntries.{seen_turn}
 use Rattle.arithmetic_matrices.proofs.workspace.add.Goals as goal
 
 pub loop-k-preserved : goal.loop-k-preserved
-loop-k-preserved c =
+loop-k-preserved g c =
     let e = c.loop-k.invariant in
     let h = c.loop-k-test.true in
-    entries_turn e h (λ i. sum_of binary64 (own_entry e h i) (other_entry e c.args.a c.requires.c_bound.2 h i))
-
-pub overflow_mul-m : goal.overflow_mul-m
-unfolding add_m
-overflow_mul-m c = omega (arith, room_few)
+    let laws = g.met.T.Real in
+    seen_turn g.T.Real.float g.T.Real.floats _ _ laws.set_law e h (laws.add_law _ _ _ c.add.ensures ∙ (λ i. sum_of g.T.Real.format
+    ((laws.item_law _ _ _ c.index-w-y.is (search rules) ∙ own_entry e h) i)
+    ((laws.item_law _ _ _ c.index-w-x.is (search rules) ∙ other_entry e c.args.a c.requires.c_bound.2 h) i)))
 
 pub loop-k-init : goal.loop-k-init
-unfolding add_m
-loop-k-init c = entries_start search
+loop-k-init g c = entries_start search
 
 pub returns : goal.returns
 unfolding add_m
-returns c = search entries_end
+returns g c = search entries_end

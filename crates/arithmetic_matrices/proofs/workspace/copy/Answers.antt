@@ -1,28 +1,16 @@
--- `copy` meets its contract, by the loop over the entries of a slot. Assumes nothing.
-use Prim.Native.Nat.{◌*◌}
-use native.Mathlib.Omega.{arith}
-use mathlib.Core.Path.{◌∙◌}
-use Rattle.arithmetic_matrices.specs.Matrix.{part}
-use Rattle.arithmetic_matrices.specs.Workspace.{slot}
-use Rattle.arithmetic_matrices.proofs.PartLaws.{get_d_part}
-use Rattle.arithmetic_matrices.proofs.LoopLaws.{room_few, entries_start, entries_turn, entries_end, other_entry}
+-- `copy` meets its contract: `copy_within` puts a part in another place. Assumes nothing.
+use Rattle.std.proofs.Common.{◌*◌, arith}
+use Rattle.arithmetic_matrices.specs.Workspace.{slot, store}
+use Rattle.arithmetic_matrices.proofs.LoopLaws.{room_few}
+use Rattle.arithmetic_matrices.proofs.SeenEntries.{seen_within}
 use Rattle.arithmetic_matrices.proofs.workspace.copy.Goals as goal
 
-pub loop-k-preserved : goal.loop-k-preserved
-unfolding slot
-loop-k-preserved c =
-    let e = c.loop-k.invariant in
-    let h = c.loop-k-test.true in
-    entries_turn e h (other_entry e c.args.a c.requires.a_bound.2 h ∙ get_d_part c.args.w.now (256 * c.args.a) _ _ h)
-
-pub overflow_mul-m : goal.overflow_mul-m
-unfolding slot part
-overflow_mul-m c = omega (arith, room_few)
-
-pub loop-k-init : goal.loop-k-init
-unfolding slot part
-loop-k-init c = entries_start search
-
 pub returns : goal.returns
-unfolding slot part
-returns c = search entries_end
+unfolding slot store
+returns g c =
+    let laws = g.met.T.Real in
+    let few = room_few c.requires.room in
+    let long = laws.length_law c.args.w.now in
+    rw c.copy_within.ensures.after
+    (seen_within g.T.Real.floats c.args.w.now laws.length_law laws.take_law laws.drop_law laws.put_mid_law
+    (256 * c.args.a) (256 * c.args.c) _ (omega (arith, few, long, c.requires.room.space)) (omega (arith, few, long, c.requires.room.space)))

@@ -1,16 +1,12 @@
--- `copy_in` meets its contract, by the loop of stores. Assumes nothing.
+-- `copy_in` meets its contract: a part is lent, and is as long as what is copied to it. Assumes nothing.
+use Rattle.std.proofs.Common.{◌*◌, refl, arith}
 use Rattle.arithmetic_matrices.specs.Workspace.{store}
-use Rattle.arithmetic_matrices.proofs.LoopLaws.{stored_start, stored_turn, copied_end}
+use Rattle.arithmetic_matrices.proofs.SeenEntries.{seen_put}
 use Rattle.arithmetic_matrices.proofs.workspace.copy_in.Goals as goal
-
-pub loop-k-init : goal.loop-k-init
-unfolding store
-loop-k-init c = stored_start _ _ _ _
-
-pub loop-k-preserved : goal.loop-k-preserved
-unfolding store
-loop-k-preserved c = search stored_turn
 
 pub returns : goal.returns
 unfolding store
-returns c = search copied_end
+returns g c =
+    let laws = g.met.T.Real in
+    rw c.copy_from_slice.ensures.after
+    (seen_put g.T.Real.floats c.args.w.now laws.length_law laws.put_mid_law (256 * c.args.a) _ c.args.src.now refl (omega arith))

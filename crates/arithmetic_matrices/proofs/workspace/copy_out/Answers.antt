@@ -1,16 +1,10 @@
--- `copy_out` meets its contract, by the loop of stores. Assumes nothing.
-use native.Mathlib.Omega.{arith}
-use mathlib.Core.Path.{refl}
-use Rattle.arithmetic_matrices.specs.Matrix.{part}
-use Rattle.arithmetic_matrices.proofs.LoopLaws.{stored_start, stored_turn0, stored_all}
+-- `copy_out` meets its contract: it copies a part that is lent. Assumes nothing.
+use Rattle.std.proofs.Common.{◌*◌, arith}
+use Rattle.arithmetic_matrices.proofs.SeenEntries.{seen_part}
 use Rattle.arithmetic_matrices.proofs.workspace.copy_out.Goals as goal
 
-pub loop-k-preserved : goal.loop-k-preserved
-loop-k-preserved c = stored_turn0 c.loop-k.invariant (omega arith) refl
-
 pub returns : goal.returns
-unfolding part
-returns c = stored_all c.loop-k.invariant (omega arith) refl
-
-pub loop-k-init : goal.loop-k-init
-loop-k-init c = stored_start _ _ _ _
+returns g c =
+    let laws = g.met.T.Real in
+    rw c.copy_from_slice.ensures.after
+    (seen_part g.T.Real.floats c.args.w.now laws.length_law laws.take_law laws.drop_law (256 * c.args.a) _ (omega arith))

@@ -1,9 +1,7 @@
 -- `identity` meets its contract: it is the multiple of the identity by 1. Assumes nothing.
-use lib.Ieee.{binary64}
-use Rattle.arithmetic_floats.proofs.Constants.{one_bits}
 use Rattle.arithmetic_matrices.specs.Product.{identity_m}
 use Rattle.arithmetic_matrices.proofs.workspace.identity.Goals as goal
 
 pub returns : goal.returns
 unfolding identity_m
-returns c = rw (one_bits binary64) at c.diagonal.ensures
+returns g c = rw (c.ONE.ensures, g.met.T.Real.one_law) at c.diagonal.ensures

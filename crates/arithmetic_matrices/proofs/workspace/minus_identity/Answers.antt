@@ -1,35 +1,20 @@
 -- `minus_identity` meets its contract, by a walk down the diagonal (`LessIdentity`). Assumes nothing.
-use Prim.Native.Nat.{◌+◌, ◌*◌, ◌<◌}
 use native.Mathlib.Omega.{arith}
-use lib.Ieee.{binary64}
-use Rattle.arithmetic_floats.proofs.Constants.{one_bits}
-use Rattle.arithmetic_matrices.proofs.LoopLaws.{diagonal_inside, less_start, less_turn, less_end}
+use mathlib.Core.Path.{ap, ◌∙◌}
+use lib.Ieee.{sub}
+use Rattle.arithmetic_matrices.proofs.LoopLaws.{less_start, less_end}
+use Rattle.arithmetic_matrices.proofs.SeenEntries.{seen_less, less_inside}
 use Rattle.arithmetic_matrices.proofs.workspace.minus_identity.Goals as goal
 
--- in a turn q is within the matrix
-inside : (t : goal.In-loop-i) → t.loop-i.q < 256 * t.args.a + t.args.n * t.args.n
-inside t = diagonal_inside t.loop-i.invariant.walk t.loop-i-test.true
-
 pub loop-i-preserved : goal.loop-i-preserved
-loop-i-preserved c = rw (one_bits binary64) (less_turn c.loop-i.invariant c.requires.room c.requires.a_bound c.loop-i-test.true)
+loop-i-preserved g c =
+    let laws = g.met.T.Real in
+    let inside = less_inside c.loop-i.invariant c.requires.room c.requires.a_bound c.loop-i-test.true in
+    seen_less g.T.Real.float g.T.Real.floats _ _ laws.set_law c.loop-i.invariant c.requires.room c.requires.a_bound c.loop-i-test.true
+    (laws.sub_law _ _ _ c.sub.ensures ∙ (λ i. sub g.T.Real.format ((laws.item_law c.loop-i.w c.loop-i.q _ c.index-w-q.is (omega (arith, inside, laws.length_law c.loop-i.w))) i) ((ap g.T.Real.float c.ONE.ensures ∙ laws.one_law) i)))
 
 pub loop-i-init : goal.loop-i-init
-loop-i-init c = less_start search
-
-pub offset_bounds-w-q : goal.offset_bounds-w-q
-offset_bounds-w-q c = omega (arith, inside c)
-
-pub bounds-w-q : goal.bounds-w-q
-bounds-w-q c = omega (arith, inside c.before)
-
-pub offset_bounds-w-q-in-loop-i : goal.offset_bounds-w-q-in-loop-i
-offset_bounds-w-q-in-loop-i c = omega (arith, inside c.before)
-
-pub bounds-w-q-in-loop-i : goal.bounds-w-q-in-loop-i
-bounds-w-q-in-loop-i c = omega (arith, inside c.before)
-
-pub overflow_add-q-in-loop-i : goal.overflow_add-q-in-loop-i
-overflow_add-q-in-loop-i c = omega (arith, inside c.before)
+loop-i-init g c = less_start search
 
 pub returns : goal.returns
-returns c = search less_end
+returns g c = search less_end

@@ -1,11 +1,6 @@
 -- `minus_identity` meets its contract, by a walk down the diagonal (`LessIdentity`). Assumes nothing.
-use Prim.Native.Nat.{◌-◌}
-use lib.Ieee.{binary64}
 use Rattle.arithmetic_matrices.proofs.LoopLaws.{LessIdentity}
 use Rattle.arithmetic_matrices.proofs.workspace.minus_identity.Given as goal
 
 abbrev pub invariant-loop-i : goal.invariant-loop-i
-invariant-loop-i l = LessIdentity binary64 l.n l.a l.initial.w l.w l.q l.i
-
-abbrev pub decreases-loop-i : goal.decreases-loop-i
-decreases-loop-i l = l.n - l.i
+invariant-loop-i g l = LessIdentity g.T.Real.format l.n l.a (g.T.Real.floats l.initial.w) (g.T.Real.floats l.w) l.q l.i

@@ -1,24 +1,24 @@
 -- `scale` meets its contract, by the loop over the entries of a slot. Assumes nothing.
-use native.Mathlib.Omega.{arith}
-use lib.Ieee.{binary64, mul}
+use mathlib.Core.Path.{◌∙◌}
+use lib.Ieee.{mul}
+use Rattle.std.proofs.Common.{rules}
 use Rattle.arithmetic_matrices.specs.Product.{times_m}
-use Rattle.arithmetic_matrices.proofs.LoopLaws.{room_few, entries_start, entries_turn, entries_end, own_entry}
+use Rattle.arithmetic_matrices.proofs.LoopLaws.{entries_start, entries_end, own_entry}
+use Rattle.arithmetic_matrices.proofs.SeenEntries.{seen_turn}
 use Rattle.arithmetic_matrices.proofs.workspace.scale.Goals as goal
 
 pub loop-k-preserved : goal.loop-k-preserved
-loop-k-preserved c =
+loop-k-preserved g c =
     let e = c.loop-k.invariant in
     let h = c.loop-k-test.true in
-    entries_turn e h (λ i. mul binary64 (own_entry e h i) c.args.by)
-
-pub overflow_mul-m : goal.overflow_mul-m
-unfolding times_m
-overflow_mul-m c = omega (arith, room_few)
+    let laws = g.met.T.Real in
+    let F = g.T.Real.format in
+    seen_turn g.T.Real.float g.T.Real.floats _ _ laws.set_law e h
+    (laws.mul_law _ _ _ c.mul.ensures ∙ (λ i. mul F ((laws.item_law _ _ _ c.index-w-x.is (search rules) ∙ own_entry e h) i) (g.T.Real.float c.args.by)))
 
 pub loop-k-init : goal.loop-k-init
-unfolding times_m
-loop-k-init c = entries_start search
+loop-k-init g c = entries_start search
 
 pub returns : goal.returns
 unfolding times_m
-returns c = search entries_end
+returns g c = search entries_end

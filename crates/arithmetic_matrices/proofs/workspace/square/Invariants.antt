@@ -1,11 +1,7 @@
 -- `square` meets its contract. The invariant: so many squarings are done. Assumes nothing.
-use Prim.Native.Nat.{◌-◌, ◌≤◌}
-use lib.Ieee.{binary64}
+use Prim.Native.Nat.{◌≤◌}
 use Rattle.arithmetic_matrices.specs.Kernels.{Squared}
 use Rattle.arithmetic_matrices.proofs.workspace.square.Given as goal
 
 abbrev pub invariant-loop-done : goal.invariant-loop-done
-invariant-loop-done l = (l.done ≤ l.s) × Squared binary64 l.n l.initial.w l.a l.t l.done l.w
-
-abbrev pub decreases-loop-done : goal.decreases-loop-done
-decreases-loop-done l = l.s - l.done
+invariant-loop-done g l = (l.done ≤ l.s) × Squared g.T.Real.format l.n (g.T.Real.floats l.initial.w) l.a l.t l.done (g.T.Real.floats l.w)

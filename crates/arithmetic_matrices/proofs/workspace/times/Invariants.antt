@@ -1,13 +1,9 @@
 -- `times` meets its contract, by the loop over the entries of a slot. Assumes nothing.
-use Prim.Native.Nat.{◌-◌}
-use lib.Ieee.{binary64, mul}
+use lib.Ieee.{mul}
 use Rattle.arithmetic_matrices.specs.Matrix.{item}
 use Rattle.arithmetic_matrices.specs.Workspace.{slot}
 use Rattle.arithmetic_matrices.proofs.LoopLaws.{SlotEntries}
 use Rattle.arithmetic_matrices.proofs.workspace.times.Given as goal
 
 abbrev pub invariant-loop-k : goal.invariant-loop-k
-invariant-loop-k l = SlotEntries l.n l.c (λ i. mul binary64 (item (slot l.n l.initial.w l.a) i) l.by) l.initial.w l.w l.k
-
-abbrev pub decreases-loop-k : goal.decreases-loop-k
-decreases-loop-k l = l.m - l.k
+invariant-loop-k g l = SlotEntries l.n l.c (λ i. mul g.T.Real.format (item (slot l.n (g.T.Real.floats l.initial.w) l.a) i) (g.T.Real.float l.by)) (g.T.Real.floats l.initial.w) (g.T.Real.floats l.w) l.k

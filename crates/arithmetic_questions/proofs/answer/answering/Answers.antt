@@ -1,27 +1,26 @@
 -- `answering` meets its contract. Assumes nothing.
 use mathlib.Core.Path.{sym, ap, ◌∙◌}
 use Rattle.arithmetic_questions.specs.Result.{Result, exit}
-use Rattle.arithmetic_questions.specs.Answers.{reported}
-use Rattle.arithmetic_questions.specs.declared.answer.Outcome.{Outcome}
+use Rattle.arithmetic_questions.specs.Answers.{Outcome, reported}
 use Rattle.arithmetic_questions.proofs.QuestionLaws.{as_refused}
 use Rattle.arithmetic_questions.specs.Reports.{report_at}
 use Rattle.arithmetic_questions.proofs.answer.answering.Goals as goal
 
-pub returns-in-Done : goal.returns-in-Done
+pub returns-in-Ok : goal.returns-in-Ok
 unfolding report_at exit
-returns-in-Done c =
+returns-in-Ok c =
     let a = c.args in
     record {
-      outcome_value = sym c.in-Done.is;
-      report_value = sym (ap (λ (z : Outcome). report_at (reported z) a.report) c.in-Done.is);
+      outcome_value = sym c.in-Ok.is;
+      report_value = sym (ap (λ (z : Outcome). report_at (reported z) a.report) c.in-Ok.is);
     }
 
-pub returns-in-Refused : goal.returns-in-Refused
+pub returns-in-Err : goal.returns-in-Err
 unfolding report_at exit
-returns-in-Refused c =
+returns-in-Err c =
     let a = c.args in
-    let (i, j, l, n) = as_refused c.in-Refused.why in
+    let (i, j, l, n) = as_refused c.in-Err.why in
     record {
-      outcome_value = sym c.in-Refused.is;
-      report_value = c.refused_report.ensures ∙ sym (ap (λ (z : Outcome). report_at (reported z) a.report) c.in-Refused.is ∙ ap (λ (z : Result (Unit {0})). report_at z a.report) n);
+      outcome_value = sym c.in-Err.is;
+      report_value = c.refused_report.ensures ∙ sym (ap (λ (z : Outcome). report_at (reported z) a.report) c.in-Err.is ∙ ap (λ (z : Result (Unit {0})). report_at z a.report) n);
     }

@@ -4,21 +4,21 @@ use Rattle.arithmetic_questions.specs.Answers.{reported}
 use Rattle.arithmetic_questions.proofs.OutputLaws.{delivered_done, delivered_none}
 use Rattle.arithmetic_questions.proofs.output.deliver.Goals as goal
 
-pub returns-in-Done : goal.returns-in-Done
-returns-in-Done c =
+pub returns-in-Ok : goal.returns-in-Ok
+returns-in-Ok g c =
     let a = c.args in
-    let e = c.in-Done.is in
+    let e = c.in-Ok.is in
     record {
-      delivered = delivered_done a.clears a.answer.outcome a.answer.outcome _ a.out.now c.copy_out.new.out a.w.now c.clear_where.new.w _ e (ap reported e)
+      delivered = delivered_done a.clears a.answer.outcome a.answer.outcome _ (g.T.Real.floats a.out.now) (g.T.Real.floats c.copy_out.new.out) (g.T.Real.floats a.w.now) (g.T.Real.floats c.clear_where.new.w) _ e (ap reported e)
           c.copy_out.ensures c.clear_where.ensures;
       report_value = refl;
     }
 
-pub returns-in-Refused : goal.returns-in-Refused
-returns-in-Refused c =
+pub returns-in-Err : goal.returns-in-Err
+returns-in-Err g c =
     let a = c.args in
-    let e = c.in-Refused.is in
+    let e = c.in-Err.is in
     record {
-      delivered = delivered_none a.clears a.answer.outcome a.answer.outcome _ a.out.now a.w.now c.clear_where-in-Refused.new.w _ e (ap reported e) c.clear_where-in-Refused.ensures;
+      delivered = delivered_none a.clears a.answer.outcome a.answer.outcome _ (g.T.Real.floats a.out.now) (g.T.Real.floats a.w.now) (g.T.Real.floats c.clear_where-in-Err.new.w) _ e (ap reported e) c.clear_where-in-Err.ensures;
       report_value = refl;
     }

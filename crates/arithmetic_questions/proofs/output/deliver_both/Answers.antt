@@ -4,21 +4,21 @@ use Rattle.arithmetic_questions.proofs.BothLaws.{both_delivered, both_kept}
 use Rattle.arithmetic_questions.specs.Answers.{reported}
 use Rattle.arithmetic_questions.proofs.output.deliver_both.Goals as goal
 
-pub returns-in-Done : goal.returns-in-Done
-returns-in-Done c =
+pub returns-in-Ok : goal.returns-in-Ok
+returns-in-Ok g c =
     let a = c.args in
-    let e = c.in-Done.is in
+    let e = c.in-Ok.is in
     record {
-      delivered_both = both_delivered a.clears a.answer.outcome a.answer.outcome _ _ a.first.now a.second.now a.w.now c.clear_where.new.w c.copy_out.new.out c.copy_out-in-Done.new.out _ e (ap reported e)
-          c.copy_out.ensures c.copy_out-in-Done.ensures c.clear_where.ensures;
+      delivered_both = both_delivered a.clears a.answer.outcome a.answer.outcome _ _ (g.T.Real.floats a.first.now) (g.T.Real.floats a.second.now) (g.T.Real.floats a.w.now) (g.T.Real.floats c.clear_where.new.w) (g.T.Real.floats c.copy_out.new.out) (g.T.Real.floats c.copy_out-in-Ok.new.out) _ e (ap reported e)
+          c.copy_out.ensures c.copy_out-in-Ok.ensures c.clear_where.ensures;
       report_value = refl;
     }
 
-pub returns-in-Refused : goal.returns-in-Refused
-returns-in-Refused c =
+pub returns-in-Err : goal.returns-in-Err
+returns-in-Err g c =
     let a = c.args in
-    let e = c.in-Refused.is in
+    let e = c.in-Err.is in
     record {
-      delivered_both = both_kept a.clears a.answer.outcome a.answer.outcome _ _ a.first.now a.second.now a.w.now c.clear_where-in-Refused.new.w _ e (ap reported e) c.clear_where-in-Refused.ensures;
+      delivered_both = both_kept a.clears a.answer.outcome a.answer.outcome _ _ (g.T.Real.floats a.first.now) (g.T.Real.floats a.second.now) (g.T.Real.floats a.w.now) (g.T.Real.floats c.clear_where-in-Err.new.w) _ e (ap reported e) c.clear_where-in-Err.ensures;
       report_value = refl;
     }

@@ -2,27 +2,28 @@
 use mathlib.Core.List.{[], ◌∷◌}
 use Rattle.arithmetic_questions.specs.Result.{◌>>=◌, first_no}
 use Rattle.arithmetic_questions.specs.Questions.{binary, direction, without_exponent, anywhere, positive, orders_from_two, every_order}
-use Rattle.arithmetic_questions.proofs.QuestionLaws.{rest_no, rest_asked, accepted_directed}
+use Rattle.arithmetic_questions.proofs.QuestionLaws.{handed_on, rest_no, rest_asked, accepted_directed}
 use Rattle.arithmetic_questions.proofs.question.ask_frechet_logm.Goals as goal
 
-pub returns-in_default : goal.returns-in_default
-returns-in_default c =
+pub returns-in_err-ask_frechet_expm : goal.returns-in_err-ask_frechet_expm
+returns-in_err-ask_frechet_expm g c =
     let a = c.args in
-    let both = c.ask_frechet_expm-both in
-    rest_no direction without_exponent positive orders_from_two (binary a.rows a.columns a.a.now a.height a.width a.e.now (a.first ∷ a.second ∷ []) a.room) both.result both.ensures
-    c.in_default.is
+    let both = c.ask_frechet_expm in
+    rw (handed_on c.from_residual.ensures.1 c.in_err-ask_frechet_expm.was)
+    (rest_no direction without_exponent positive orders_from_two (binary a.rows a.columns (g.T.Real.floats a.a.now) a.height a.width (g.T.Real.floats a.e.now) (a.first ∷ a.second ∷ []) a.room) both.result both.ensures
+    c.in_err-ask_frechet_expm.was)
 
 pub ask_logarithm-requires : goal.ask_logarithm-requires
-ask_logarithm-requires c =
+ask_logarithm-requires g c =
     let a = c.args in
-    let both = c.ask_frechet_expm-both in
-    (accepted_directed without_exponent anywhere every_order (binary a.rows a.columns a.a.now a.height a.width a.e.now (a.first ∷ a.second ∷ []) a.room) both.result both.ensures
-    c.in-Passed.is).0.shape.some
+    let both = c.ask_frechet_expm in
+    rw (g.met.T.Real.length_law a.a.now) at (accepted_directed without_exponent anywhere every_order (binary a.rows a.columns (g.T.Real.floats a.a.now) a.height a.width (g.T.Real.floats a.e.now) (a.first ∷ a.second ∷ []) a.room) both.result both.ensures
+    c.in_ok-ask_frechet_expm.was).0.shape.some
 
 pub returns : goal.returns
 unfolding first_no ◌>>=◌
-returns c =
+returns g c =
     let a = c.args in
-    let both = c.ask_frechet_expm-both in
-    rest_asked direction without_exponent positive orders_from_two (binary a.rows a.columns a.a.now a.height a.width a.e.now (a.first ∷ a.second ∷ []) a.room) both.result both.ensures c.ask_logarithm.result
-    c.in-Passed.is c.ask_logarithm.ensures
+    let both = c.ask_frechet_expm in
+    rest_asked direction without_exponent positive orders_from_two (binary a.rows a.columns (g.T.Real.floats a.a.now) a.height a.width (g.T.Real.floats a.e.now) (a.first ∷ a.second ∷ []) a.room) both.result both.ensures c.ask_logarithm.result
+    c.in_ok-ask_frechet_expm.was c.ask_logarithm.ensures

@@ -2,25 +2,26 @@
 use mathlib.Core.List.{[], ◌∷◌}
 use Rattle.arithmetic_questions.specs.Result.{◌>>=◌, first_no}
 use Rattle.arithmetic_questions.specs.Questions.{unary, without_companion, without_exponent, anywhere, positive, orders_from_two, every_order}
-use Rattle.arithmetic_questions.proofs.QuestionLaws.{rest_no, rest_asked, accepted}
+use Rattle.arithmetic_questions.proofs.QuestionLaws.{handed_on, rest_no, rest_asked, accepted}
 use Rattle.arithmetic_questions.proofs.question.ask_logm.Goals as goal
 
-pub returns-in_default : goal.returns-in_default
-returns-in_default c =
+pub returns-in_err-ask_matrix : goal.returns-in_err-ask_matrix
+returns-in_err-ask_matrix g c =
     let a = c.args in
-    let matrix = c.ask_matrix-matrix in
-    rest_no without_companion without_exponent positive orders_from_two (unary a.rows a.columns a.a.now (a.out ∷ []) a.room) matrix.result matrix.ensures c.in_default.is
+    let matrix = c.ask_matrix in
+    rw (handed_on c.from_residual.ensures.1 c.in_err-ask_matrix.was)
+    (rest_no without_companion without_exponent positive orders_from_two (unary a.rows a.columns (g.T.Real.floats a.a.now) (a.out ∷ []) a.room) matrix.result matrix.ensures c.in_err-ask_matrix.was)
 
 pub ask_logarithm-requires : goal.ask_logarithm-requires
-ask_logarithm-requires c =
+ask_logarithm-requires g c =
     let a = c.args in
-    let matrix = c.ask_matrix-matrix in
-    (accepted without_exponent anywhere every_order (unary a.rows a.columns a.a.now (a.out ∷ []) a.room) matrix.result matrix.ensures c.in-Passed.is).shape.some
+    let matrix = c.ask_matrix in
+    rw (g.met.T.Real.length_law a.a.now) at (accepted without_exponent anywhere every_order (unary a.rows a.columns (g.T.Real.floats a.a.now) (a.out ∷ []) a.room) matrix.result matrix.ensures c.in_ok-ask_matrix.was).shape.some
 
 pub returns : goal.returns
 unfolding first_no ◌>>=◌
-returns c =
+returns g c =
     let a = c.args in
-    let matrix = c.ask_matrix-matrix in
-    rest_asked without_companion without_exponent positive orders_from_two (unary a.rows a.columns a.a.now (a.out ∷ []) a.room) matrix.result matrix.ensures c.ask_logarithm.result c.in-Passed.is
+    let matrix = c.ask_matrix in
+    rest_asked without_companion without_exponent positive orders_from_two (unary a.rows a.columns (g.T.Real.floats a.a.now) (a.out ∷ []) a.room) matrix.result matrix.ensures c.ask_logarithm.result c.in_ok-ask_matrix.was
     c.ask_logarithm.ensures

@@ -1,38 +1,19 @@
 -- `scan_finite` meets its contract, by the loops over the rows and columns (`FiniteBefore`). Assumes nothing.
 use Prim.Native.Nat.{◌+◌, ◌*◌, ◌<◌}
-use mathlib.Core.Path.{sym, ◌∙◌}
-use native.Mathlib.Omega.{arith}
+use mathlib.Core.Path.{sym, ap, ◌∙◌}
+use lib.Ieee.Scale.{finite}
 use lib.ListN.{length}
-use Rattle.arithmetic_questions.proofs.QuestionLaws.{finite_start, finite_inside, finite_turn, finite_row, finite_end, finite_at}
+use Rattle.arithmetic_questions.proofs.QuestionLaws.{finite_inside, finite_end, finite_at}
 use Rattle.arithmetic_questions.proofs.question.scan_finite.Goals as goal
 
-pub columns-preserved : goal.columns-preserved
-columns-preserved c =
-    let v = c.columns.invariant in
-    (v.0, finite_turn v.1 c.columns-test.true (sym c.is_finite.ensures ∙ c.if-not-is_finite.false))
-
 pub returns-then-not-is_finite : goal.returns-then-not-is_finite
-returns-then-not-is_finite c =
-    let v = c.columns.invariant in
-    finite_at v.1 v.0 c.columns-test.true (sym c.is_finite.ensures ∙ c.if-not-is_finite.true)
+returns-then-not-is_finite g c =
+    let laws = g.met.T.Real in
+    let (row, before) = c.loop-j.invariant in
+    let column = c.loop-j-test.true in
+    let inside : c.loop-i.i * c.args.columns + c.loop-j.j < length (g.T.Real.floats c.args.a.now) = finite_inside before row column in
+    let entry = laws.item_law _ _ _ c.index-a-k.is (rw (laws.length_law c.args.a.now) at inside) in
+    finite_at before row column (ap finite (sym entry) ∙ sym c.is_finite.ensures ∙ c.if-not-is_finite.true)
 
-pub rows-init : goal.rows-init
-rows-init c = search finite_start
-
-pub overflow_mul-k : goal.overflow_mul-k
-overflow_mul-k c = omega (arith, (let it : c.rows.i * c.args.columns + c.columns.j < length c.args.a.now = finite_inside c.columns.invariant.1 c.columns.invariant.0 c.columns-test.true in it))
-
-pub overflow_add-k : goal.overflow_add-k
-overflow_add-k c = omega (arith, (let it : c.rows.i * c.args.columns + c.columns.j < length c.args.a.now = finite_inside c.columns.invariant.1 c.columns.invariant.0 c.columns-test.true in it))
-
-pub offset_bounds-a-k : goal.offset_bounds-a-k
-offset_bounds-a-k c = omega (arith, (let it : c.rows.i * c.args.columns + c.columns.j < length c.args.a.now = finite_inside c.columns.invariant.1 c.columns.invariant.0 c.columns-test.true in it))
-
-pub bounds-a-k : goal.bounds-a-k
-bounds-a-k c = (let it : c.rows.i * c.args.columns + c.columns.j < length c.args.a.now = finite_inside c.columns.invariant.1 c.columns.invariant.0 c.columns-test.true in it)
-
-pub rows-preserved : goal.rows-preserved
-rows-preserved c = search finite_row
-
-pub returns-after-rows : goal.returns-after-rows
-returns-after-rows c = search finite_end
+pub returns : goal.returns
+returns g c = search finite_end

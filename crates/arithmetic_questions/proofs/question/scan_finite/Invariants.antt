@@ -1,16 +1,10 @@
 -- `scan_finite` meets its contract, by the loops over the rows and columns (`FiniteBefore`). Assumes nothing.
-use Prim.Native.Nat.{◌-◌, ◌<◌}
+use Prim.Native.Nat.{◌<◌}
 use Rattle.arithmetic_questions.proofs.QuestionLaws.{FiniteBefore}
 use Rattle.arithmetic_questions.proofs.question.scan_finite.Given as goal
 
-abbrev pub invariant-columns : goal.invariant-columns
-invariant-columns l = (l.i < l.rows) × FiniteBefore l.a l.rows l.columns l.answer l.i l.j
+abbrev pub invariant-loop-j : goal.invariant-loop-j
+invariant-loop-j g l = (l.i < l.rows) × FiniteBefore (g.T.Real.floats l.a) l.rows l.columns l.i l.j
 
-abbrev pub decreases-columns : goal.decreases-columns
-decreases-columns l = l.columns - l.j
-
-abbrev pub invariant-rows : goal.invariant-rows
-invariant-rows l = FiniteBefore l.a l.rows l.columns l.answer l.i 0
-
-abbrev pub decreases-rows : goal.decreases-rows
-decreases-rows l = l.rows - l.i
+abbrev pub invariant-loop-i : goal.invariant-loop-i
+invariant-loop-i g l = FiniteBefore (g.T.Real.floats l.a) l.rows l.columns l.i 0

@@ -1,11 +1,7 @@
 -- `pade_sums` meets its contract, by the loop over the terms (`PadeTerms` of ExponentialLaws). Assumes nothing.
-use Prim.Native.Nat.{◌-◌}
-use lib.Ieee.{binary64}
+
 use Rattle.functions_exponential.proofs.ExponentialLaws.{PadeTerms}
 use Rattle.functions_exponential.proofs.exponential.pade_sums.Given as goal
 
 abbrev pub invariant-loop-k : goal.invariant-loop-k
-invariant-loop-k l = PadeTerms binary64 l.n l.initial.w l.w l.c l.k
-
-abbrev pub decreases-loop-k : goal.decreases-loop-k
-decreases-loop-k l = 14 - l.k
+invariant-loop-k g l = PadeTerms g.T.Real.format l.n (g.T.Real.floats l.initial.w) (g.T.Real.floats l.w) (g.T.Real.float l.c) l.k

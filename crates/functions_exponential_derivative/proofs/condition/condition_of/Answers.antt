@@ -2,7 +2,7 @@
 use Prim.Native.Nat.{◌*◌}
 use mathlib.Core.Path.{ap, ◌∙◌}
 use mathlib.Core.Bool.{cond}
-use lib.Ieee.{binary64, div, lt}
+use lib.Ieee.{div, lt}
 use Rattle.arithmetic_floats.specs.Float.{+zero, one}
 use Rattle.arithmetic_floats.specs.Root.{sqrt_of}
 use Rattle.arithmetic_matrices.specs.Norm.{sum_of_squares, frobenius}
@@ -12,9 +12,9 @@ use Rattle.functions_exponential_derivative.proofs.condition.condition_of.Goals 
 
 pub returns : goal.returns
 unfolding condition_of frobenius
-returns c =
+returns g c =
     let n = c.args.n in
-    let x = c.sqrt-exponential_norm.ensures.value ∙ ap (sqrt_of binary64) (c.sum_of_squares.ensures ∙ ap (sum_of_squares binary64 (n * n)) (part_all c.args.x.now (n * n) c.requires.0)) in
-    let d = c.sqrt-derivative_norm.ensures.value ∙ ap (sqrt_of binary64) (c.sum_of_squares-2.ensures ∙ ap (sum_of_squares binary64 (n * n)) (part_all c.args.d.now (n * n) c.requires.1)) in
-    let ratio = c.ratio_of.ensures ∙ (λ i. cond (lt +zero (x i)) (div binary64 (d i) (x i)) one) in
+    let x = c.sqrt-exponential_norm.ensures.value ∙ ap (sqrt_of g.T.Real.format) (c.sum_of_squares.ensures ∙ ap (sum_of_squares g.T.Real.format (n * n)) (part_all (g.T.Real.floats c.args.x.now) (n * n) (g.met.T.Real.length_law c.args.x.now ∙ c.requires.0))) in
+    let d = c.sqrt-derivative_norm.ensures.value ∙ ap (sqrt_of g.T.Real.format) (c.sum_of_squares-2.ensures ∙ ap (sum_of_squares g.T.Real.format (n * n)) (part_all (g.T.Real.floats c.args.d.now) (n * n) (g.met.T.Real.length_law c.args.d.now ∙ c.requires.1))) in
+    let ratio = c.ratio_of.ensures ∙ (λ i. cond (lt +zero (x i)) (div g.T.Real.format (d i) (x i)) one) in
     λ i. record { ratio = ratio i; derivative_norm = d i; exponential_norm = x i }

@@ -1,8 +1,8 @@
 -- `frechet_expm_with` meets its contract. Assumes nothing.
+use mathlib.Core.Path.{sym, ◌∙◌}
 use mathlib.Core.List.{[], ◌∷◌}
 use native.Mathlib.Omega.{arith}
 use lib.ListN.{length}
-use lib.Ieee.{binary64}
 use Rattle.arithmetic_questions.specs.Questions.{binary, without_exponent, anywhere, every_order, of_frechet_expm}
 use Rattle.arithmetic_questions.proofs.QuestionLaws.{accepted_directed}
 use Rattle.arithmetic_questions.proofs.BothLaws.{two_refused}
@@ -16,53 +16,54 @@ use Rattle.functions_definitions.proofs.FirstOutput.{refused_alone, counted}
 use Rattle.functions_exponential_derivative.proofs.frechet.frechet_expm_with.Goals as goal
 
 pub frechet_expm_in-answer-requires : goal.frechet_expm_in-answer-requires
-frechet_expm_in-answer-requires c =
+frechet_expm_in-answer-requires g c =
     let a = c.args in
     let asked = c.ask_frechet_expm in
-    let call = binary a.rows a.columns a.a.now a.height a.width a.e.now (length a.first.now ∷ length a.second.now ∷ []) (length a.w.now) in
-    let (m, d) = accepted_directed without_exponent anywhere every_order call asked.result asked.ensures c.in-Passed.is in
+    let call = binary a.rows a.columns (g.T.Real.floats a.a.now) a.height a.width (g.T.Real.floats a.e.now) (length a.first.now ∷ length a.second.now ∷ []) (length a.w.now) in
+    let (m, d) = accepted_directed without_exponent anywhere every_order call asked.result asked.ensures c.in-Ok.is in
     let s = m.shape in
+    let laws = g.met.T.Real in
     record {
-      room = record { order = omega (arith, s.small); space = s.room };
-      n_bound = (s.small, s.long, d.shape.long, s.outputs.0, s.outputs.1.0);
+      room = record { order = omega (arith, s.small); space = omega (arith, s.room, laws.length_law a.w.now) };
+      n_bound = (s.small, sym (laws.length_law a.a.now) ∙ s.long, sym (laws.length_law a.e.now) ∙ d.shape.long, s.outputs.0, s.outputs.1.0);
     }
 
 pub clear_where-requires : goal.clear_where-requires
-clear_where-requires c =
+clear_where-requires g c =
     let a = c.args in
     let asked = c.ask_frechet_expm in
-    let call = binary a.rows a.columns a.a.now a.height a.width a.e.now (length a.first.now ∷ length a.second.now ∷ []) (length a.w.now) in
-    let (m, d) = accepted_directed without_exponent anywhere every_order call asked.result asked.ensures c.in-Passed.is in
-    omega (arith, m.shape.room, c.frechet_expm_in-answer.ensures.written.only.long)
+    let call = binary a.rows a.columns (g.T.Real.floats a.a.now) a.height a.width (g.T.Real.floats a.e.now) (length a.first.now ∷ length a.second.now ∷ []) (length a.w.now) in
+    let (m, d) = accepted_directed without_exponent anywhere every_order call asked.result asked.ensures c.in-Ok.is in
+    omega (arith, m.shape.room, c.frechet_expm_in-answer.auto.w)
 
-pub returns-in-No : goal.returns-in-No
+pub returns-in-Err : goal.returns-in-Err
 unfolding frechet_expm
-returns-in-No c =
+returns-in-Err g c =
     let a = c.args in
     let asked = c.ask_frechet_expm in
-    let call = binary a.rows a.columns a.a.now a.height a.width a.e.now (length a.first.now ∷ length a.second.now ∷ []) (length a.w.now) in
+    let call = binary a.rows a.columns (g.T.Real.floats a.a.now) a.height a.width (g.T.Real.floats a.e.now) (length a.first.now ∷ length a.second.now ∷ []) (length a.w.now) in
     let no = c.refused in
-    let O = two_refused of_frechet_expm call asked.result asked.ensures a.clears no.result.outcome a.first.now a.second.now a.w.now (frechet_exp_m binary64 a.rows a.a.now a.e.now) _ c.in-No.is no.ensures.outcome_value in
+    let O = two_refused of_frechet_expm call asked.result asked.ensures a.clears no.result.outcome (g.T.Real.floats a.first.now) (g.T.Real.floats a.second.now) (g.T.Real.floats a.w.now) (frechet_exp_m g.T.Real.format a.rows (g.T.Real.floats a.a.now) (g.T.Real.floats a.e.now)) _ c.in-Err.is no.ensures.outcome_value in
     record {
       two_outputs_with = O;
-      first_alone = refused_alone binary64 a.rows a.a.now a.e.now a.first.now no.result.outcome c.in-No.why no.ensures.outcome_value;
-      report_value = report_refused _ (frechet_exp_report binary64 a.rows a.a.now a.e.now) no.result.report no.result.outcome c.in-No.why O.outcome no.ensures.outcome_value no.ensures.report_value;
+      first_alone = refused_alone g.T.Real.format a.rows (g.T.Real.floats a.a.now) (g.T.Real.floats a.e.now) (g.T.Real.floats a.first.now) no.result.outcome c.in-Err.why no.ensures.outcome_value;
+      report_value = report_refused _ (frechet_exp_report g.T.Real.format a.rows (g.T.Real.floats a.a.now) (g.T.Real.floats a.e.now)) no.result.report no.result.outcome c.in-Err.why O.outcome no.ensures.outcome_value no.ensures.report_value;
     }
 
-pub returns-in-Passed : goal.returns-in-Passed
+pub returns-in-Ok : goal.returns-in-Ok
 unfolding frechet_expm
-returns-in-Passed c =
+returns-in-Ok g c =
     let a = c.args in
     let asked = c.ask_frechet_expm in
-    let call = binary a.rows a.columns a.a.now a.height a.width a.e.now (length a.first.now ∷ length a.second.now ∷ []) (length a.w.now) in
-    let told = c.in-Passed.is in
+    let call = binary a.rows a.columns (g.T.Real.floats a.a.now) a.height a.width (g.T.Real.floats a.e.now) (length a.first.now ∷ length a.second.now ∷ []) (length a.w.now) in
+    let told = c.in-Ok.is in
     let (m, d) = accepted_directed without_exponent anywhere every_order call asked.result asked.ensures told in
-    let x = frechet_exp_m binary64 a.rows a.a.now a.e.now in
+    let x = frechet_exp_m g.T.Real.format a.rows (g.T.Real.floats a.a.now) (g.T.Real.floats a.e.now) in
     let f = c.frechet_expm_in-answer in
     let clear1 = c.clear_where in
     record {
-      two_outputs_with = two_written of_frechet_expm call asked.result asked.ensures a.clears f.result.outcome x a.first.now a.second.now a.w.now f.new.first f.new.second f.new.w clear1.new.w told
-          (late-frechet_exp_m binary64 a.rows a.a.now a.e.now) m.shape.room f.ensures.written clear1.ensures;
-      first_alone = written_alone binary64 a.rows a.a.now a.e.now a.first.now f.new.first a.second.now f.new.second a.w.now f.new.w f.result.outcome (counted binary64 a.rows m.shape.small) f.ensures.written;
+      two_outputs_with = two_written of_frechet_expm call asked.result asked.ensures a.clears f.result.outcome x (g.T.Real.floats a.first.now) (g.T.Real.floats a.second.now) (g.T.Real.floats a.w.now) (g.T.Real.floats f.new.first) (g.T.Real.floats f.new.second) (g.T.Real.floats f.new.w) (g.T.Real.floats clear1.new.w) told
+          (late-frechet_exp_m g.T.Real.format a.rows (g.T.Real.floats a.a.now) (g.T.Real.floats a.e.now)) (omega (arith, m.shape.room, g.met.T.Real.length_law a.w.now)) f.ensures.written clear1.ensures;
+      first_alone = written_alone g.T.Real.format a.rows (g.T.Real.floats a.a.now) (g.T.Real.floats a.e.now) (g.T.Real.floats a.first.now) (g.T.Real.floats f.new.first) (g.T.Real.floats a.second.now) (g.T.Real.floats f.new.second) (g.T.Real.floats a.w.now) (g.T.Real.floats f.new.w) f.result.outcome (counted g.T.Real.format a.rows m.shape.small) f.ensures.written;
       report_value = report_passed of_frechet_expm call asked.result asked.ensures x _ f.result.report told f.ensures.report_value;
     }

@@ -1,61 +1,37 @@
--- `quarter_row` meets its contract. The invariant: row i of `out` has its new entries in the columns below j. The measure is what is left of the columns.
--- Assumes nothing.
+-- `quarter_row` meets its contract. The invariant: row i of `out` has its new entries in the columns below j. Assumes nothing.
 use Prim.Native.Nat.{ℕ, ◌+◌, ◌*◌, ◌≤◌, ◌<◌}
 use mathlib.Core.Path.{◌≡◌, ap, ◌∙◌}
-use mathlib.Core.List.{List}
 use native.Mathlib.Omega.{arith}
-use lib.ListN.{length, set}
-use lib.Ieee.{Float}
+use lib.ListN.{set}
 use Rattle.arithmetic_matrices.specs.Matrix.{at}
 use Rattle.arithmetic_matrices.specs.Kernels.{row_to, with_row}
 use Rattle.arithmetic_matrices.proofs.MatrixLaws.{index_lt}
-use Rattle.arithmetic_matrices.proofs.PatchLaws.{length-row_to, row_none, row_more}
+use Rattle.arithmetic_matrices.proofs.PatchLaws.{row_none, row_more}
 use Rattle.functions_exponential_derivative.specs.Kernels.{quarter_row}
 use Rattle.functions_exponential_derivative.proofs.frechet.quarter_row.Goals as goal
 
-inside : (n c i j : ℕ) → i < n → c ≤ n → j < n → i * (n + n) + (c + j) < (n + n) * (n + n)
-inside n c i j p q r = index_lt (omega arith) (omega arith)
+-- the place of an entry of the quarter is within b, and that of its copy within out
+inside : (n c i j : ℕ) → i < n → c ≤ n → j < n → (i * (n + n) + (c + j) < (n + n) * (n + n)) × (i * n + j < n * n)
+inside n c i j p q r = (index_lt (omega arith) (omega arith), index_lt p r)
 
 pub loop-j-init : goal.loop-j-init
-loop-j-init c = (omega arith, row_none c.args.n c.args.i (quarter_row c.args.n c.args.c c.args.b.now c.args.i) c.args.out.now)
-
-pub overflow_mul-out : goal.overflow_mul-out
-overflow_mul-out c = omega (arith, (let it : c.args.i * (c.args.n + c.args.n) + (c.args.c + c.loop-j.j) < (c.args.n + c.args.n) * (c.args.n + c.args.n) = inside c.args.n c.args.c c.args.i c.loop-j.j c.requires.0 c.requires.2 (omega arith) in it))
-
-pub overflow_add-out-in-loop-j-2 : goal.overflow_add-out-in-loop-j-2
-overflow_add-out-in-loop-j-2 c = omega (arith, (let it : c.args.i * (c.args.n + c.args.n) + (c.args.c + c.loop-j.j) < (c.args.n + c.args.n) * (c.args.n + c.args.n) = inside c.args.n c.args.c c.args.i c.loop-j.j c.requires.0 c.requires.2 (omega arith) in it))
-
-pub offset_bounds-b-i : goal.offset_bounds-b-i
-offset_bounds-b-i c = omega (arith, (let it : c.args.i * (c.args.n + c.args.n) + (c.args.c + c.loop-j.j) < (c.args.n + c.args.n) * (c.args.n + c.args.n) = inside c.args.n c.args.c c.args.i c.loop-j.j c.requires.0 c.requires.2 (omega arith) in it))
-
-pub bounds-b-i : goal.bounds-b-i
-bounds-b-i c = omega (arith, (let it : c.args.i * (c.args.n + c.args.n) + (c.args.c + c.loop-j.j) < (c.args.n + c.args.n) * (c.args.n + c.args.n) = inside c.args.n c.args.c c.args.i c.loop-j.j c.requires.0 c.requires.2 (omega arith) in it))
-
-pub overflow_mul-out-in-loop-j : goal.overflow_mul-out-in-loop-j
-overflow_mul-out-in-loop-j c = omega (arith, (let it : c.args.i * c.args.n + c.loop-j.j < c.args.n * c.args.n = index_lt c.requires.0 (omega arith) in it))
-
-pub overflow_add-out-in-loop-j-3 : goal.overflow_add-out-in-loop-j-3
-overflow_add-out-in-loop-j-3 c = omega (arith, (let it : c.args.i * c.args.n + c.loop-j.j < c.args.n * c.args.n = index_lt c.requires.0 (omega arith) in it))
-
-pub offset_bounds-out-i : goal.offset_bounds-out-i
-offset_bounds-out-i c = omega (arith, (let it : c.args.i * c.args.n + c.loop-j.j < c.args.n * c.args.n = index_lt c.requires.0 (omega arith) in it))
-
-pub bounds-out-i : goal.bounds-out-i
-bounds-out-i c =
-    let l = c.loop-j in
-    omega (arith, (let it : c.args.i * c.args.n + c.loop-j.j < c.args.n * c.args.n = index_lt c.requires.0 (omega arith) in it), ap length l.invariant.1, length-row_to c.args.n c.args.i (quarter_row c.args.n c.args.c c.args.b.now c.args.i) c.args.out.now l.j)
+loop-j-init g c = (omega arith, row_none c.args.n c.args.i (quarter_row c.args.n c.args.c (g.T.Real.floats c.args.b.now) c.args.i) (g.T.Real.floats c.args.out.now))
 
 pub loop-j-preserved : goal.loop-j-preserved
-loop-j-preserved c =
+loop-j-preserved g c =
     let l = c.loop-j in
     let a = c.args in
-    let h = quarter_row a.n a.c a.b.now a.i in
-    (omega arith, unfold quarter_row at in (ap (λ (x : List Float). set x (a.i * a.n + l.j) (h l.j)) l.invariant.1 ∙ row_more a.n a.i h a.out.now l.j (omega (arith, (let it : c.args.i * c.args.n + c.loop-j.j < c.args.n * c.args.n = index_lt c.requires.0 (omega arith) in it)))))
+    let laws = g.met.T.Real in
+    let out = g.T.Real.floats a.out.now in
+    let h = quarter_row a.n a.c (g.T.Real.floats a.b.now) a.i in
+    let p = inside a.n a.c a.i l.j c.requires.0 c.requires.2 (omega arith) in
+    let read : g.T.Real.float c.index-b-i.result ≡ h l.j = unfold quarter_row at in laws.item_law _ _ _ c.index-b-i.is (omega (arith, p.0, c.requires.3)) in
+    (omega arith, laws.set_law _ _ _ ∙ (λ i. set (l.invariant.1 i) (a.i * a.n + l.j) (read i)) ∙ row_more a.n a.i h out l.j (omega (arith, p.1, c.requires.4, laws.length_law a.out.now)))
 
 pub returns : goal.returns
 unfolding with_row
-returns c =
+returns g c =
     let l = c.loop-j in
     let a = c.args in
     let e : l.j ≡ a.n = omega arith in
-    l.invariant.1 ∙ ap (row_to a.n a.i (quarter_row a.n a.c a.b.now a.i) a.out.now) e
+    l.invariant.1 ∙ ap (row_to a.n a.i (quarter_row a.n a.c (g.T.Real.floats a.b.now) a.i) (g.T.Real.floats a.out.now)) e

@@ -1,6 +1,4 @@
--- `add_terms` meets its contract, by the loop over the terms (`Passing` of PassLaws). The measure is what is left of 59. Assumes nothing.
-use Prim.Native.Nat.{◌-◌}
-use lib.Ieee.{binary64}
+-- `add_terms` meets its contract, by the loop over the terms (`Passing` of PassLaws). Assumes nothing.
 use Rattle.arithmetic_matrices.specs.Workspace.{slot}
 use Rattle.functions_definitions.specs.Logarithm.{series_step}
 use Rattle.functions_roots.proofs.PassLaws.{Passing}
@@ -9,7 +7,4 @@ use Rattle.functions_logarithms.proofs.LogarithmLaws.{summing}
 use Rattle.functions_logarithms.proofs.logarithm.add_terms.Given as goal
 
 abbrev pub invariant-loop-k : goal.invariant-loop-k
-invariant-loop-k l = Passing (series_step binary64 l.n (slot l.n l.initial.w 0)) 59 (series_in l.n) summing l.initial.w l.w l.k
-
-abbrev pub decreases-loop-k : goal.decreases-loop-k
-decreases-loop-k l = 59 - l.k
+invariant-loop-k g l = Passing (series_step g.T.Real.format l.n (slot l.n (g.T.Real.floats l.initial.w) 0)) 59 (series_in l.n) summing (g.T.Real.floats l.initial.w) (g.T.Real.floats l.w) l.k

@@ -1,11 +1,6 @@
--- `take_roots` meets its contract, by the loop over the roots (`Rooting` of LogarithmLaws). The measure is what is left of 100. Assumes nothing.
-use Prim.Native.Nat.{◌-◌}
-use lib.Ieee.{binary64}
+-- `take_roots` meets its contract, by the loop over the roots (`Rooting` of LogarithmLaws). Assumes nothing.
 use Rattle.functions_logarithms.proofs.LogarithmLaws.{Rooting}
 use Rattle.functions_logarithms.proofs.logarithm.take_roots.Given as goal
 
 abbrev pub invariant-loop-k : goal.invariant-loop-k
-invariant-loop-k l = Rooting binary64 l.n l.initial.w l.w l.report l.k
-
-abbrev pub decreases-loop-k : goal.decreases-loop-k
-decreases-loop-k l = 100 - l.k
+invariant-loop-k g l = Rooting g.T.Real.format l.n (g.T.Real.floats l.initial.w) (g.T.Real.floats l.w) l.report l.k

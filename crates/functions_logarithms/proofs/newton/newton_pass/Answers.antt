@@ -1,17 +1,16 @@
 -- `newton_pass` meets its contract: a law for each outcome of LU. Assumes nothing.
-use lib.Ieee.{binary64}
 use Rattle.functions_logarithms.proofs.NewtonLaws.{newton_passed, newton_failed}
 use Rattle.functions_logarithms.proofs.newton.newton_pass.Goals as goal
 
-pub returns-in-Factored : goal.returns-in-Factored
-returns-in-Factored c =
+pub returns-in-Ok : goal.returns-in-Ok
+returns-in-Ok g c =
     let d = c.divide_slot-division in
     let rest = c.newton_mean-pass in
-    newton_passed binary64 c.args.n c.args.w.now c.requires c.copy.new.w c.copy-2.new.w d.new.w d.result.outcome c.copy.ensures c.copy-2.ensures d.ensures.slot_quotient
-    rest.new.w rest.result d.result.smallest c.factored.result c.in-Factored.is rest.ensures d.ensures.smallest_value c.factored.ensures
+    newton_passed g.T.Real.format c.args.n (g.T.Real.floats c.args.w.now) c.requires (g.T.Real.floats c.copy.new.w) (g.T.Real.floats c.copy-2.new.w) (g.T.Real.floats d.new.w) d.result.outcome c.copy.ensures c.copy-2.ensures d.ensures.slot_quotient
+    (g.T.Real.floats rest.new.w) rest.result (g.T.Real.float d.result.smallest) c.factored.result c.in-Ok.is rest.ensures d.ensures.smallest_value c.factored.ensures
 
-pub returns-in-Singular : goal.returns-in-Singular
-returns-in-Singular c =
+pub returns-in-Err : goal.returns-in-Err
+returns-in-Err g c =
     let d = c.divide_slot-division in
-    newton_failed binary64 c.args.n c.args.w.now c.requires c.copy.new.w c.copy-2.new.w d.new.w d.result.outcome c.copy.ensures c.copy-2.ensures d.ensures.slot_quotient
-    c.in-Singular.field-0 c.nothing.result c.in-Singular.is c.nothing.ensures
+    newton_failed g.T.Real.format c.args.n (g.T.Real.floats c.args.w.now) c.requires (g.T.Real.floats c.copy.new.w) (g.T.Real.floats c.copy-2.new.w) (g.T.Real.floats d.new.w) d.result.outcome c.copy.ensures c.copy-2.ensures d.ensures.slot_quotient
+    c.in-Err.field-0.column c.nothing.result c.in-Err.is c.nothing.ensures

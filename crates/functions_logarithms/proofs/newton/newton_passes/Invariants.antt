@@ -1,6 +1,4 @@
--- `newton_passes` meets its contract, by the loop over the passes (`Reporting` of PassLaws). The measure is what is left of 100. Assumes nothing.
-use Prim.Native.Nat.{◌-◌}
-use lib.Ieee.{binary64}
+-- `newton_passes` meets its contract, by the loop over the passes (`Reporting` of PassLaws). Assumes nothing.
 use Rattle.arithmetic_matrices.specs.Workspace.{slot}
 use Rattle.functions_definitions.specs.Reports.{lu_report}
 use Rattle.functions_definitions.specs.Roots.{newton_step}
@@ -9,7 +7,4 @@ use Rattle.functions_logarithms.proofs.NewtonLaws.{root, used}
 use Rattle.functions_logarithms.proofs.newton.newton_passes.Given as goal
 
 abbrev pub invariant-loop-i : goal.invariant-loop-i
-invariant-loop-i l = Reporting (λ _. newton_step binary64 l.n (slot l.n l.initial.w 0)) (lu_report binary64 l.n) 100 (root l.n) used l.initial.w l.w l.report l.i
-
-abbrev pub decreases-loop-i : goal.decreases-loop-i
-decreases-loop-i l = 100 - l.i
+invariant-loop-i g l = Reporting (λ _. newton_step g.T.Real.format l.n (slot l.n (g.T.Real.floats l.initial.w) 0)) (lu_report g.T.Real.format l.n) 100 (root l.n) used (g.T.Real.floats l.initial.w) (g.T.Real.floats l.w) l.report l.i

@@ -1,7 +1,6 @@
 -- `newton_root` meets its contract. Assumes nothing.
-use lib.Ieee.{binary64}
 use Rattle.functions_logarithms.proofs.NewtonLaws.{newton_all}
 use Rattle.functions_logarithms.proofs.newton.newton_root.Goals as goal
 
 pub returns : goal.returns
-returns c = newton_all binary64 c.args.n c.args.w.now c.requires c.diagonal.new.w c.newton_passes.new.w c.newton_scale-scale.result c.newton_passes.result c.newton_scale-scale.ensures c.diagonal.ensures c.newton_passes.ensures
+returns g c = newton_all g.T.Real.format c.args.n (g.T.Real.floats c.args.w.now) c.requires (g.T.Real.floats c.diagonal.new.w) (g.T.Real.floats c.newton_passes.new.w) (g.T.Real.float c.newton_scale-scale.result) c.newton_passes.result c.newton_scale-scale.ensures c.diagonal.ensures c.newton_passes.ensures

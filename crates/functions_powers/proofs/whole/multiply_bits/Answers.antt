@@ -1,29 +1,28 @@
 -- `multiply_bits` meets its contract, by the loop over the bits (`BitsDone` of WholeLaws). The measure is what is left of e. Assumes nothing.
-use mathlib.Core.Path.{refl, ◌∙◌}
+use mathlib.Core.Path.{refl}
 use lib.Dec.{lit≤}
-use lib.Ieee.{binary64}
 use Rattle.arithmetic_matrices.proofs.Slots.{room_kept}
 use Rattle.functions_powers.proofs.WholeLaws.{bits_start, bits_turn, bits_end}
 use Rattle.functions_powers.proofs.whole.multiply_bits.Goals as goal
 
 pub loop-rest-init : goal.loop-rest-init
-loop-rest-init c = bits_start binary64 c.args.n c.args.w.now c.requires.room c.args.e c.requires.w_value
+loop-rest-init g c = bits_start g.T.Real.format c.args.n (g.T.Real.floats c.args.w.now) c.requires.room c.args.e c.requires.w_value
 
 pub square-requires : goal.square-requires
-square-requires c =
+square-requires g c =
     record {
-      room = room_kept c.requires.room (c.multiply_bit.auto.w ∙ c.loop-rest.invariant.multiplied.only.long);
+      room = search room_kept;
       a_bound = (lit≤ tt, lit≤ tt, refl);
     }
 
 pub loop-rest-preserved : goal.loop-rest-preserved
-loop-rest-preserved c = bits_turn binary64 c.args.n c.args.w.now c.requires.room c.loop-rest.invariant c.multiply_bit.ensures c.square.ensures
+loop-rest-preserved g c = bits_turn g.T.Real.format c.args.n (g.T.Real.floats c.args.w.now) c.requires.room c.loop-rest.invariant c.multiply_bit.ensures c.square.ensures
 
 pub returns : goal.returns
-returns c = bits_end binary64 c.args.n c.args.w.now c.requires.room c.loop-rest.invariant c.multiply_bit-2.ensures c.ranges.e.fits c.loop-rest-test.false
+returns g c = bits_end g.T.Real.format c.args.n (g.T.Real.floats c.args.w.now) c.requires.room c.loop-rest.invariant c.multiply_bit-2.ensures c.ranges.e.fits c.loop-rest-test.false
 
 pub multiply_bit-requires : goal.multiply_bit-requires
-multiply_bit-requires c = search room_kept
+multiply_bit-requires g c = search room_kept
 
 pub multiply_bit-requires-2 : goal.multiply_bit-requires-2
-multiply_bit-requires-2 c = search room_kept
+multiply_bit-requires-2 g c = search room_kept

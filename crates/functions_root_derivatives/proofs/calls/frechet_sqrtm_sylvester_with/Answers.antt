@@ -6,4 +6,4 @@ use Rattle.functions_root_derivatives.proofs.calls.frechet_sqrtm_sylvester_with.
 
 pub returns : goal.returns
 unfolding frechet_sqrtm_sylvester frechet_sqrt_sylvester_m frechet_sqrt_sylvester_report
-returns c = c.root_derivative_with.ensures
+returns g c = c.root_derivative_with.ensures

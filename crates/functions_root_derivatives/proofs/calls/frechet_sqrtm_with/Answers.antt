@@ -6,4 +6,4 @@ use Rattle.functions_root_derivatives.proofs.calls.frechet_sqrtm_with.Goals as g
 
 pub returns : goal.returns
 unfolding frechet_sqrtm frechet_sqrt_m frechet_sqrt_report
-returns c = c.root_derivative_with.ensures
+returns g c = c.root_derivative_with.ensures

@@ -5,10 +5,10 @@ use native.Mathlib.Omega.{arith}
 use Rattle.functions_root_derivatives.proofs.root_derivative.load_system.Goals as goal
 
 pub slice_bounds-fill_system-end : goal.slice_bounds-fill_system-end
-slice_bounds-fill_system-end c = sym (length-take-le _ _ (omega (arith, c.requires.1, c.small_room-s.ensures)))
+slice_bounds-fill_system-end g c = sym (length-take-le _ _ (omega (arith, c.requires.1, c.small_room-s.ensures)))
 
 pub fill_system-requires : goal.fill_system-requires
-fill_system-requires c = (c.requires.0, c.requires.1, c.requires.2, length-take-le _ _ (omega (arith, c.requires.1, c.small_room-s.ensures)))
+fill_system-requires g c = (c.requires.0, c.requires.1, c.requires.2, length-take-le _ _ (omega (arith, c.requires.1, c.small_room-s.ensures)))
 
 pub returns : goal.returns
-returns c = c.fill_system.ensures
+returns g c = c.fill_system.ensures

@@ -1,5 +1,5 @@
 -- `sylvester_into` meets its contract, by the loop over the rows of blocks. Assumes nothing.
-use Prim.Native.Nat.{◌+◌, ◌*◌, ◌≤◌}
+use mathlib.Core.Path.{◌∙◌}
 use native.Mathlib.Nat.{mul-le-mul}
 use native.Mathlib.Omega.{arith}
 use Rattle.arithmetic_matrices.specs.Kernels.{block_row}
@@ -9,19 +9,19 @@ use Rattle.functions_root_derivatives.proofs.sylvester.sylvester_into.Goals as g
 
 pub returns : goal.returns
 unfolding sylvester_matrix block_row
-returns c = blocks_end c.loop-p.invariant c.loop-p-test.false c.requires.3
+returns g c = blocks_end c.loop-p.invariant c.loop-p-test.false (g.met.T.Real.length_law c.args.out.now ∙ c.requires.3)
 
 pub overflow_mul-size-2 : goal.overflow_mul-size-2
-overflow_mul-size-2 c = omega (arith, mul-le-mul c.requires.0 c.requires.1)
+overflow_mul-size-2 g c = omega (arith, mul-le-mul c.requires.0 c.requires.1)
 
 pub loop-p-init : goal.loop-p-init
-loop-p-init c = blocks_start
+loop-p-init g c = blocks_start
 
 pub sylvester_rows-requires : goal.sylvester_rows-requires
-sylvester_rows-requires c = omega (arith, (let it : c.loop-p.y + c.args.n * (c.args.n * c.args.n) ≤ c.args.n * c.args.n * (c.args.n * c.args.n) = blocks_inside c.loop-p.invariant c.loop-p-test.true in it))
+sylvester_rows-requires g c = omega (arith, blocks_inside c.loop-p.invariant c.loop-p-test.true)
 
 pub overflow_add-y : goal.overflow_add-y
-overflow_add-y c = omega (arith, (let it : c.loop-p.y + c.args.n * (c.args.n * c.args.n) ≤ c.args.n * c.args.n * (c.args.n * c.args.n) = blocks_inside c.loop-p.invariant c.loop-p-test.true in it))
+overflow_add-y g c = omega (arith, blocks_inside c.loop-p.invariant c.loop-p-test.true)
 
 pub loop-p-preserved : goal.loop-p-preserved
-loop-p-preserved c = search blocks_turn
+loop-p-preserved g c = search blocks_turn

@@ -1,6 +1,5 @@
 -- `sylvester_rows` meets its contract, by the loop over the rows of the blocks. Assumes nothing.
-use Prim.Native.Nat.{◌-◌, ◌*◌}
-use lib.Ieee.{binary64}
+use Prim.Native.Nat.{◌*◌}
 use Rattle.functions_definitions.specs.Derivatives.{sylvester_entry}
 use Rattle.arithmetic_matrices.specs.Kernels.{block_row}
 use Rattle.arithmetic_matrices.proofs.FilledLaws.{Filled}
@@ -8,7 +7,4 @@ use Rattle.functions_root_derivatives.specs.Kernels.{second_of}
 use Rattle.functions_root_derivatives.proofs.sylvester.sylvester_rows.Given as goal
 
 abbrev pub invariant-loop-r : goal.invariant-loop-r
-invariant-loop-r l = Filled l.initial.out l.y l.n (l.n * l.n) (block_row l.n (sylvester_entry binary64 l.n l.s (second_of l.transposed l.n l.s)) l.p) l.z l.out l.r
-
-abbrev pub decreases-loop-r : goal.decreases-loop-r
-decreases-loop-r l = l.n - l.r
+invariant-loop-r g l = Filled (g.T.Real.floats l.initial.out) l.y l.n (l.n * l.n) (block_row l.n (sylvester_entry g.T.Real.format l.n (g.T.Real.floats l.s) (second_of l.transposed l.n (g.T.Real.floats l.s))) l.p) l.z (g.T.Real.floats l.out) l.r

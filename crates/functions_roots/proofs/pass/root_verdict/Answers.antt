@@ -1,20 +1,25 @@
 -- `root_verdict` meets its contract. Assumes nothing.
-use mathlib.Core.Path.{sym, ap, ◌∙◌, subst}
-use lib.Dec.{T}
-use lib.Ieee.{Float, binary64, lt, of_bits, of_int}
+use mathlib.Core.Path.{sym, ap, ◌∙◌}
+use lib.Ieee.{lt, mul}
+use Rattle.arithmetic_floats.specs.Root.{hundred_steps}
 use Rattle.functions_definitions.specs.Roots.{root_tolerance}
 use Rattle.functions_roots.specs.Kernels.{tested}
-use Rattle.functions_roots.proofs.PassLaws.{large_root}
 use Rattle.functions_roots.proofs.pass.root_verdict.Goals as goal
 
-pub returns-then-sum : goal.returns-then-sum
-unfolding of_bits
-returns-then-sum c = sym (ap tested (large_root binary64 c.args.sum (subst T (sym c.well_formed.0.1) tt) (subst T (sym c.if-sum.true) tt)))
+pub returns-then-has_large_root : goal.returns-then-has_large_root
+unfolding root_tolerance hundred_steps
+returns-then-has_large_root g c = sym (ap tested (c.has_large_root.ensures c.if-has_large_root.true))
 
-pub returns-then-sqrt : goal.returns-then-sqrt
-unfolding of_bits of_int root_tolerance
-returns-then-sqrt c = sym (ap tested c.if-sqrt.true) ∙ ap (λ (v : Float). tested (lt v (root_tolerance binary64))) c.sqrt.ensures.value
+pub returns-then-lt : goal.returns-then-lt
+unfolding root_tolerance
+returns-then-lt g c =
+    let laws = g.met.T.Real in
+    let high = laws.mul_law _ _ _ c.mul.ensures ∙ (λ i. mul g.T.Real.format ((ap g.T.Real.float c.EPSILON.ensures ∙ laws.epsilon_law) i) (c.of_small.ensures i)) in
+    sym (ap tested c.if-lt.true) ∙ ap tested (c.lt.ensures ∙ laws.less_law _ _ ∙ (λ i. lt (c.sqrt.ensures.value i) (high i)))
 
-pub returns-else-sqrt : goal.returns-else-sqrt
-unfolding of_bits of_int root_tolerance
-returns-else-sqrt c = sym (ap tested c.if-sqrt.false) ∙ ap (λ (v : Float). tested (lt v (root_tolerance binary64))) c.sqrt.ensures.value
+pub returns-else-lt : goal.returns-else-lt
+unfolding root_tolerance
+returns-else-lt g c =
+    let laws = g.met.T.Real in
+    let high = laws.mul_law _ _ _ c.mul.ensures ∙ (λ i. mul g.T.Real.format ((ap g.T.Real.float c.EPSILON.ensures ∙ laws.epsilon_law) i) (c.of_small.ensures i)) in
+    sym (ap tested c.if-lt.false) ∙ ap tested (c.lt.ensures ∙ laws.less_law _ _ ∙ (λ i. lt (c.sqrt.ensures.value i) (high i)))

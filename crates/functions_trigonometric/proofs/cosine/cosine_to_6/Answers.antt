@@ -1,11 +1,11 @@
 -- `cosine_to_6` meets its contract: a step for each term. Assumes nothing.
-use lib.Ieee.{binary64}
+
 use Rattle.functions_trigonometric.proofs.SeriesLaws.{sixth_steps}
 use Rattle.functions_trigonometric.proofs.cosine.cosine_to_6.Goals as goal
 
 pub returns : goal.returns
-returns c =
+returns g c =
     let a = c.args in
-    sixth_steps binary64 a.n a.w.now c.requires c.identity.new.w c.deduct.new.w c.accumulate.new.w c.deduct-2.new.w
-    c.one_over.result c.one_over-2.result c.one_over-3.result c.one_over.ensures c.one_over-2.ensures c.one_over-3.ensures
+    sixth_steps g.T.Real.format a.n (g.T.Real.floats a.w.now) c.requires (g.T.Real.floats c.identity.new.w) (g.T.Real.floats c.deduct.new.w) (g.T.Real.floats c.accumulate.new.w) (g.T.Real.floats c.deduct-2.new.w)
+    (g.T.Real.float c.one_over.result) (g.T.Real.float c.one_over-2.result) (g.T.Real.float c.one_over-3.result) c.one_over.ensures c.one_over-2.ensures c.one_over-3.ensures
     c.identity.ensures c.deduct.ensures c.accumulate.ensures c.deduct-2.ensures

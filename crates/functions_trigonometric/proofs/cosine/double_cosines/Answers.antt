@@ -1,21 +1,10 @@
 -- `double_cosines` meets its contract. The invariant: the first i doublings are done. Assumes nothing.
-use mathlib.Core.Path.{◌≡◌}
-use lib.Ieee.{binary64}
-use Rattle.arithmetic_matrices.proofs.Slots.{room_kept}
 use Rattle.functions_trigonometric.proofs.SeriesLaws.{cosine_none, cosine_more}
 use native.Mathlib.Omega.{arith}
 use Rattle.functions_trigonometric.proofs.cosine.double_cosines.Goals as goal
 
 pub loop-i-init : goal.loop-i-init
-loop-i-init c = (omega arith, cosine_none binary64 _ _ c.requires)
-
-pub double_cosine-requires : goal.double_cosine-requires
-double_cosine-requires c = room_kept c.requires c.loop-i.invariant.1.only.long
+loop-i-init g c = (omega arith, cosine_none g.T.Real.format _ _ c.requires)
 
 pub loop-i-preserved : goal.loop-i-preserved
-loop-i-preserved c = (omega arith, cosine_more binary64 c.args.n c.args.w.now c.requires c.loop-i.i c.loop-i.w c.double_cosine.new.w c.loop-i.invariant.1 c.double_cosine.ensures)
-
-pub returns : goal.returns
-returns c =
-    let e : c.loop-i.i ≡ c.args.s = omega arith in
-    rw e at c.loop-i.invariant.1
+loop-i-preserved g c = (omega arith, cosine_more g.T.Real.format c.args.n (g.T.Real.floats c.args.w.now) c.requires c.loop-i.i (g.T.Real.floats c.loop-i.w) (g.T.Real.floats c.double_cosine.new.w) c.loop-i.invariant.1 c.double_cosine.ensures)

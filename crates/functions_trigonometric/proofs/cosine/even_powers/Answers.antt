@@ -1,9 +1,9 @@
 -- `even_powers` meets its contract: a step for each product. Assumes nothing.
-use lib.Ieee.{binary64}
+
 use Rattle.functions_trigonometric.proofs.SeriesLaws.{even_steps}
 use Rattle.functions_trigonometric.proofs.cosine.even_powers.Goals as goal
 
 pub returns : goal.returns
-returns c =
+returns g c =
     let a = c.args in
-    even_steps binary64 a.n a.w.now c.requires c.mult.new.w c.mult-2.new.w c.mult-3.new.w c.mult.ensures c.mult-2.ensures c.mult-3.ensures
+    even_steps g.T.Real.format a.n (g.T.Real.floats a.w.now) c.requires (g.T.Real.floats c.mult.new.w) (g.T.Real.floats c.mult-2.new.w) (g.T.Real.floats c.mult-3.new.w) c.mult.ensures c.mult-2.ensures c.mult-3.ensures

@@ -1,11 +1,10 @@
 -- `one_over` meets its contract. Assumes nothing.
-use native.Mathlib.Omega.{arith}
-use lib.Ieee.{binary64}
-use Rattle.functions_trigonometric.proofs.ReciprocalLaws.{reciprocal_small, reciprocal}
+use mathlib.Core.Path.{ap, ◌∙◌}
+use Rattle.functions_trigonometric.proofs.ReciprocalLaws.{reciprocal}
 use Rattle.functions_trigonometric.proofs.cosine.one_over.Goals as goal
 
-pub of_small-requires : goal.of_small-requires
-of_small-requires c = omega (arith, reciprocal_small c.args.k c.requires)
-
 pub returns : goal.returns
-returns c = reciprocal binary64 c.args.k c.of_small.result c.requires c.of_small.ensures
+returns g c =
+    let laws = g.met.T.Real in
+    laws.div_law _ _ _ c.div.ensures
+    ∙ reciprocal g.T.Real.format c.args.k _ (g.T.Real.float c.of_small.result) c.requires (ap g.T.Real.float c.ONE.ensures ∙ laws.one_law) c.of_small.ensures

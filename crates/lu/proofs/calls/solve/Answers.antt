@@ -1,7 +1,6 @@
 -- `solve` meets its contract. Assumes nothing.
 use mathlib.Core.Path.{sym, ◌∙◌}
 use lib.ListN.{length}
-use lib.Ieee.{binary64}
 use Rattle.arithmetic_questions.specs.Result.{done}
 use Rattle.arithmetic_questions.specs.Questions.{of_solve}
 use Rattle.arithmetic_questions.specs.Reports.{nothing}
@@ -13,31 +12,32 @@ use Rattle.lu.proofs.LuQuestionLaws.{solve_passed}
 use Rattle.lu.proofs.calls.solve.Goals as goal
 
 pub solve_into-requires : goal.solve_into-requires
-solve_into-requires c =
+solve_into-requires g c =
     let a = c.args in
     let asked = c.ask_solve in
-    let s = solve_passed a.rows a.columns a.f.now a.pivots.now asked.result c.in-Passed.is a.height a.width a.b.now (length a.out.now) asked.ensures in
-    (s.given.system.matrix, s.right, s.solution, s.given.system.pivots, s.given.named)
+    let laws = g.met.T.Real in
+    let s = solve_passed a.rows a.columns (g.T.Real.floats a.f.now) a.pivots.now asked.result c.in-Ok.is a.height a.width (g.T.Real.floats a.b.now) (length a.out.now) asked.ensures in
+    (sym (laws.length_law a.f.now) ∙ s.given.system.matrix, sym (laws.length_law a.b.now) ∙ s.right, s.solution, s.given.system.pivots, s.given.named)
 
-pub returns-in-No : goal.returns-in-No
+pub returns-in-Err : goal.returns-in-Err
 unfolding solve
-returns-in-No c =
+returns-in-Err g c =
     let a = c.args in
     let asked = c.ask_solve in
-    let R = output_refused of_solve (solve_call a.rows a.columns a.f.now a.pivots.now a.height a.width a.b.now (length a.out.now)) asked.result asked.ensures c.refused.result.outcome a.out.now
-    (done 0 (solved_matrix binary64 a.rows a.width a.f.now a.pivots.now a.b.now)) _ c.in-No.is c.refused.ensures.outcome_value in
+    let R = output_refused of_solve (solve_call a.rows a.columns (g.T.Real.floats a.f.now) a.pivots.now a.height a.width (g.T.Real.floats a.b.now) (length a.out.now)) asked.result asked.ensures c.refused.result.outcome (g.T.Real.floats a.out.now)
+    (done 0 (solved_matrix g.T.Real.format a.rows a.width (g.T.Real.floats a.f.now) a.pivots.now (g.T.Real.floats a.b.now))) _ c.in-Err.is c.refused.ensures.outcome_value in
     record {
       one_output = R;
-      report_value = report_refused _ nothing _ c.refused.result.outcome c.in-No.why R.outcome c.refused.ensures.outcome_value c.refused.ensures.report_value;
+      report_value = report_refused _ nothing _ c.refused.result.outcome c.in-Err.why R.outcome c.refused.ensures.outcome_value c.refused.ensures.report_value;
     }
 
-pub returns-in-Passed : goal.returns-in-Passed
+pub returns-in-Ok : goal.returns-in-Ok
 unfolding solve
-returns-in-Passed c =
+returns-in-Ok g c =
     let a = c.args in
     let asked = c.ask_solve in
-    let R = output_done of_solve (solve_call a.rows a.columns a.f.now a.pivots.now a.height a.width a.b.now (length a.out.now)) asked.result asked.ensures c.done.result.outcome a.out.now
-    0 (solved_matrix binary64 a.rows a.width a.f.now a.pivots.now a.b.now) _ c.in-Passed.is c.done.ensures.outcome_value c.solve_into.ensures in
+    let R = output_done of_solve (solve_call a.rows a.columns (g.T.Real.floats a.f.now) a.pivots.now a.height a.width (g.T.Real.floats a.b.now) (length a.out.now)) asked.result asked.ensures c.done.result.outcome (g.T.Real.floats a.out.now)
+    0 (solved_matrix g.T.Real.format a.rows a.width (g.T.Real.floats a.f.now) a.pivots.now (g.T.Real.floats a.b.now)) _ c.in-Ok.is c.done.ensures.outcome_value c.solve_into.ensures in
     record {
       one_output = R;
       report_value = c.done.ensures.report_value ∙ report_done _ nothing 0 (sym c.done.ensures.outcome_value ∙ R.outcome);

@@ -4,14 +4,14 @@ use Rattle.arithmetic_questions.specs.Result.{exit}
 use Rattle.arithmetic_questions.specs.Reports.{factored, report_at}
 use Rattle.lu.proofs.question.answer_of.Goals as goal
 
-pub returns-in-Factored : goal.returns-in-Factored
+pub returns-in-Ok : goal.returns-in-Ok
 unfolding report_at exit
-returns-in-Factored c =
-    rw c.in-Factored.is record {
+returns-in-Ok g c =
+    rw c.in-Ok.is record {
       outcome_value = refl;
       report_value = c.factored.ensures ∙ ap factored c.smallest_pivot.ensures;
     }
 
-pub returns-in-Singular : goal.returns-in-Singular
+pub returns-in-Err : goal.returns-in-Err
 unfolding report_at exit
-returns-in-Singular c = rw c.in-Singular.is c.refused.ensures
+returns-in-Err g c = rw c.in-Err.is c.refused.ensures

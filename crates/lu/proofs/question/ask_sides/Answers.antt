@@ -1,15 +1,28 @@
 -- `ask_sides` meets its contract. Assumes nothing.
-use Rattle.arithmetic_questions.proofs.QuestionLaws.{single, joined}
+use Rattle.arithmetic_questions.proofs.QuestionLaws.{handed_on, single, stops, goes_on}
 use Rattle.lu.proofs.question.ask_sides.Goals as goal
+
+pub returns-in_err-ask_square : goal.returns-in_err-ask_square
+returns-in_err-ask_square c =
+    rw (handed_on c.from_residual.ensures.1 c.in_err-ask_square.was)
+    (stops _ (single c.ask_square.result c.ask_square.ensures) c.in_err-ask_square.was).asks
+
+pub returns-in_err-ask : goal.returns-in_err-ask
+returns-in_err-ask c =
+    rw (handed_on c.from_residual-in_err-ask.ensures.1 c.in_err-ask.was)
+    (goes_on (single c.ask_square.result c.ask_square.ensures) c.in_ok-ask_square.was
+    (stops _ (single c.ask.result c.ask.ensures) c.in_err-ask.was)).asks
+
+pub returns-in_err-ask_at_most : goal.returns-in_err-ask_at_most
+returns-in_err-ask_at_most c =
+    rw (handed_on c.from_residual-in_err-ask_at_most.ensures.1 c.in_err-ask_at_most.was)
+    (goes_on (single c.ask_square.result c.ask_square.ensures) c.in_ok-ask_square.was
+    (goes_on (single c.ask.result c.ask.ensures) c.in_ok-ask.was
+    (stops _ (single c.ask_at_most.result c.ask_at_most.ensures) c.in_err-ask_at_most.was))).asks
 
 pub returns : goal.returns
 returns c =
-    let square = c.ask_square in
-    let fits = c.ask-fits in
-    let order = c.first_no in
-    let small = c.ask_at_most in
-    let narrow = c.ask_at_most-2 in
-    let limits = c.first_no-limits in
-    (joined c.first_no-2.result
-    (joined order.result (single square.result square.ensures) (single fits.result fits.ensures) order.ensures)
-    (joined limits.result (single small.result small.ensures) (single narrow.result narrow.ensures) limits.ensures) c.first_no-2.ensures).asks
+    (goes_on (single c.ask_square.result c.ask_square.ensures) c.in_ok-ask_square.was
+    (goes_on (single c.ask.result c.ask.ensures) c.in_ok-ask.was
+    (goes_on (single c.ask_at_most.result c.ask_at_most.ensures) c.in_ok-ask_at_most.was
+    (single c.ask_at_most-2.result c.ask_at_most-2.ensures)))).asks

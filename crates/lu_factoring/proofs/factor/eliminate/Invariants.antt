@@ -1,11 +1,7 @@
 -- `eliminate` meets its contract, by the loop over the rows (`EliminatedTo` of LuLoop). Assumes nothing.
-use Prim.Native.Nat.{◌-◌}
-use lib.Ieee.{binary64}
+
 use Rattle.lu_factoring.proofs.LuLoop.{EliminatedTo}
 use Rattle.lu_factoring.proofs.factor.eliminate.Given as goal
 
 abbrev pub invariant-loop-i : goal.invariant-loop-i
-invariant-loop-i l = EliminatedTo binary64 l.n l.k l.t l.initial.m l.m l.i
-
-abbrev pub decreases-loop-i : goal.decreases-loop-i
-decreases-loop-i l = l.n - l.i
+invariant-loop-i g l = EliminatedTo g.T.Real.format l.n l.k (g.T.Real.float l.t) (g.T.Real.floats l.initial.m) (g.T.Real.floats l.m) l.i

@@ -1,11 +1,9 @@
 -- `factor_in` meets its contract: the part of w is lent to `factor_matrix` and comes back.
 -- Assumes nothing.
-use lib.Ieee.{binary64}
 use Rattle.lu_factoring.proofs.LuLaws.{done_in}
 use Rattle.lu_factoring.proofs.factor.factor_in.Goals as goal
 
 pub returns : goal.returns
-returns c =
-    let a = c.args in
-    let f = c.factor_matrix in
-    done_in binary64 a.n a.off a.w.now a.pivots.now f.new.m f.new.pivots f.result c.requires.1 f.ensures
+returns g c =
+    let laws = g.met.T.Real in
+    rw laws.put_mid_law (done_in _ _ _ _ _ _ _ _ (rw laws.length_law c.requires.1) (rw (laws.take_law, laws.drop_law) at c.factor_matrix.ensures))

@@ -1,10 +1,6 @@
 -- `find_pivot` meets its contract, by the search of the pivot (`PivotSearch` of LuLoop). Assumes nothing.
-use Prim.Native.Nat.{◌-◌}
 use Rattle.lu_factoring.proofs.LuLoop.{PivotSearch}
 use Rattle.lu_factoring.proofs.factor.find_pivot.Given as goal
 
 abbrev pub invariant-loop-i : goal.invariant-loop-i
-invariant-loop-i l = PivotSearch l.n l.m l.k l.p l.best l.i
-
-abbrev pub decreases-loop-i : goal.decreases-loop-i
-decreases-loop-i l = l.n - l.i
+invariant-loop-i g l = PivotSearch l.n (g.T.Real.floats l.m) l.k l.p (g.T.Real.float l.best) l.i

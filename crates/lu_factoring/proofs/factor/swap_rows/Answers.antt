@@ -4,6 +4,4 @@ use Rattle.lu_factoring.proofs.RowLaws.{swap_rows_whole}
 use Rattle.lu_factoring.proofs.factor.swap_rows.Goals as goal
 
 pub returns : goal.returns
-returns c =
-    let a = c.args in
-    c.exchange_rows.ensures ∙ swap_rows_whole a.n a.k a.p a.m.now c.requires.0 c.requires.1 c.requires.2
+returns g c = c.exchange_rows.ensures ∙ swap_rows_whole _ _ _ _ c.requires.0 c.requires.1 (g.met.T.Real.length_law _ ∙ c.requires.2)

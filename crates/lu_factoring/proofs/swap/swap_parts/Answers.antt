@@ -1,17 +1,21 @@
 -- `swap_parts` meets its contract, by the loop over the pairs of numbers (`Swapped` of RowLaws). Assumes nothing.
 use native.Mathlib.Omega.{arith}
 use lib.ListN.{length-set}
-use Rattle.lu_factoring.proofs.RowLaws.{swapped_start, swapped_turn, swapped_end}
+use Rattle.lu_factoring.proofs.RowLaws.{swapped_start, seen_swapped, swapped_end}
 use Rattle.lu_factoring.proofs.swap.swap_parts.Goals as goal
 
 pub loop-j-preserved : goal.loop-j-preserved
-loop-j-preserved c = swapped_turn c.loop-j.invariant c.requires.2 c.loop-j-test.true
+loop-j-preserved g c =
+    let laws = g.met.T.Real in
+    let h = c.loop-j-test.true in
+    seen_swapped g.T.Real.float g.T.Real.floats _ _ _ laws.set_law c.loop-j.invariant c.requires.2 h
+    (laws.item_law _ _ _ c.index-w-x.is (omega arith)) (laws.item_law _ _ _ c.index-w-y.is (omega arith))
 
 pub loop-j-init : goal.loop-j-init
-loop-j-init c = swapped_start _ _ _ _
+loop-j-init g c = swapped_start _ _ _ _
 
 pub bounds-w-y-in-loop-j : goal.bounds-w-y-in-loop-j
-bounds-w-y-in-loop-j c = simp length-set (omega arith)
+bounds-w-y-in-loop-j g c = simp length-set (omega arith)
 
 pub returns : goal.returns
-returns c = search swapped_end
+returns g c = search swapped_end

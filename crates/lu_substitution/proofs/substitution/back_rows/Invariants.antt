@@ -1,10 +1,6 @@
--- `back_rows` meets its contract, by the loop over the rows from the last (`Backed`). Assumes nothing.
-use lib.Ieee.{binary64}
-use Rattle.lu_substitution.proofs.SubstitutionLaws.{Backed}
+-- `back_rows` meets its contract, by the steps over the rows from the last. Assumes nothing.
+use Rattle.lu_substitution.proofs.SubstitutionLaws.{Steps, backed}
 use Rattle.lu_substitution.proofs.substitution.back_rows.Given as goal
 
-abbrev pub invariant-loop-i : goal.invariant-loop-i
-invariant-loop-i l = Backed binary64 l.n l.m l.f l.initial.x l.x l.q l.y l.i
-
-abbrev pub decreases-loop-i : goal.decreases-loop-i
-decreases-loop-i l = l.i
+abbrev pub invariant-loop-k : goal.invariant-loop-k
+invariant-loop-k g l = Steps (backed g.T.Real.format l.n l.m (g.T.Real.floats l.f) (g.T.Real.floats l.initial.x)) l.n (g.T.Real.floats l.x) l.k

@@ -1,16 +1,10 @@
--- `permute_rows` meets its contract, by the loop over the swaps (`Permuted`). Assumes nothing.
-use native.Mathlib.Omega.{arith}
-use Rattle.lu_substitution.proofs.SubstitutionLaws.{permuted_start, permuted_turn, permuted_end}
+-- `permute_rows` meets its contract, by the steps over the swaps. Assumes nothing.
+use mathlib.Core.Path.{◌∙◌}
+use Rattle.lu_substitution.proofs.SubstitutionLaws.{swapped_start, swapped_turn}
 use Rattle.lu_substitution.proofs.substitution.permute_rows.Goals as goal
 
-pub exchange_rows-requires : goal.exchange_rows-requires
-exchange_rows-requires c = (c.loop-k-test.true, c.requires.2 c.loop-k.k c.loop-k-test.true, omega (arith, c.loop-k.invariant.size))
+pub loop-k-init : goal.loop-k-init
+loop-k-init g c = swapped_start _ _ _ _ (g.met.T.Real.length_law c.args.x.now ∙ c.requires.0)
 
 pub loop-k-preserved : goal.loop-k-preserved
-loop-k-preserved c = permuted_turn c.loop-k.invariant c.loop-k-test.true c.exchange_rows.ensures
-
-pub loop-k-init : goal.loop-k-init
-loop-k-init c = search permuted_start
-
-pub returns : goal.returns
-returns c = permuted_end c.loop-k.invariant c.loop-k-test.false
+loop-k-preserved g c = swapped_turn _ _ _ _ (g.met.T.Real.length_law c.args.x.now ∙ c.requires.0) c.loop-k.invariant c.loop-k-test.true c.exchange_rows.ensures

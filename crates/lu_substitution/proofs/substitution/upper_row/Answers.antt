@@ -1,26 +1,24 @@
--- `upper_row` meets its contract. The invariant: the first j numbers of the row are written, and nothing else is changed. Assumes nothing.
+-- `upper_row` meets its contract: the numbers before column 4 * b, or j, are written, and nothing else is changed. Assumes nothing.
+use Prim.Native.Nat.{◌+◌, ◌*◌}
 use native.Mathlib.Omega.{arith}
-use mathlib.Core.Path.{◌≡◌, refl, ◌∙◌}
-use lib.Ieee.{binary64}
+use mathlib.Core.Path.{◌≡◌, refl}
 use Rattle.arithmetic_matrices.proofs.PartLaws.{put-none}
 use Rattle.lu_systems.specs.Kernels.{row_at}
 use Rattle.lu_systems.proofs.ByRows.{upper_after}
 use Rattle.lu_substitution.proofs.substitution.upper_row.Goals as goal
 
-pub loop-j-init : goal.loop-j-init
-loop-j-init c = (omega arith, refl, put-none _ _ _)
+pub loop-b-init : goal.loop-b-init
+loop-b-init g c = put-none _ _ _
+
+pub loop-b-preserved : goal.loop-b-preserved
+loop-b-preserved g c =
+    let b = c.loop-b.b in
+    let a = c.args in
+    let next : 4 * b + 4 ≡ 4 * (b + 1) = omega arith in
+    rw (c.upper_block.ensures, c.loop-b.invariant, ← next) (upper_after g.T.Real.format a.k a.m (g.T.Real.floats a.x.now) a.y (4 * b) 4 (omega arith) (row_at (g.T.Real.floats a.f.now) a.g) (row_at (g.T.Real.floats a.f.now) a.g) (λ d b. refl))
 
 pub loop-j-preserved : goal.loop-j-preserved
-loop-j-preserved c =
-    let next = c.upper_next-j in
-    let l = c.loop-j in
-    let a = c.args in (
-      next.ensures.1,
-      next.auto.x ∙ l.invariant.1,
-      rw (next.ensures.2, l.invariant.2) (upper_after binary64 a.k a.m a.x.now a.y l.j next.result next.ensures.1 (row_at a.f.now a.g) (row_at a.f.now a.g) (λ d b. refl)),
-    )
-
-pub returns : goal.returns
-returns c =
-    let e : c.loop-j.j ≡ c.args.m = omega arith in
-    rw e at c.loop-j.invariant.2
+loop-j-preserved g c =
+    let j = c.loop-j.j in
+    let a = c.args in
+    rw (c.upper_block-in-loop-j.ensures, c.loop-j.invariant) (upper_after g.T.Real.format a.k a.m (g.T.Real.floats a.x.now) a.y j 1 (omega arith) (row_at (g.T.Real.floats a.f.now) a.g) (row_at (g.T.Real.floats a.f.now) a.g) (λ d b. refl))

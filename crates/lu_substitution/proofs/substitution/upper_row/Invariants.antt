@@ -1,14 +1,12 @@
--- `upper_row` meets its contract. The invariant: the first j numbers of the row are written, and nothing else is changed. Assumes nothing.
-use Prim.Native.Nat.{◌-◌, ◌≤◌}
+-- `upper_row` meets its contract: the numbers before column 4 * b, or j, are written, and nothing else is changed. Assumes nothing.
+use Prim.Native.Nat.{◌*◌}
 use mathlib.Core.Path.{◌≡◌}
-use lib.ListN.{length}
-use lib.Ieee.{binary64}
 use Rattle.arithmetic_matrices.specs.Matrix.{tab, put}
 use Rattle.lu_systems.specs.Kernels.{upper_entry, row_at, column_at}
 use Rattle.lu_substitution.proofs.substitution.upper_row.Given as goal
 
-abbrev pub invariant-loop-j : goal.invariant-loop-j
-invariant-loop-j l = (l.j ≤ l.m) × (length l.x ≡ length l.initial.x) × (l.x ≡ put l.initial.x l.y (tab l.j (upper_entry binary64 l.k (row_at l.f l.g) (column_at l.m l.initial.x l.y) (row_at l.initial.x l.y))))
+abbrev pub invariant-loop-b : goal.invariant-loop-b
+invariant-loop-b g l = g.T.Real.floats l.x ≡ put (g.T.Real.floats l.fn.x) l.y (tab (4 * l.b) (upper_entry g.T.Real.format l.k (row_at (g.T.Real.floats l.f) l.g) (column_at l.m (g.T.Real.floats l.fn.x) l.y) (row_at (g.T.Real.floats l.fn.x) l.y)))
 
-abbrev pub decreases-loop-j : goal.decreases-loop-j
-decreases-loop-j l = l.m - l.j
+abbrev pub invariant-loop-j : goal.invariant-loop-j
+invariant-loop-j g l = g.T.Real.floats l.x ≡ put (g.T.Real.floats l.fn.x) l.y (tab l.j (upper_entry g.T.Real.format l.k (row_at (g.T.Real.floats l.f) l.g) (column_at l.m (g.T.Real.floats l.fn.x) l.y) (row_at (g.T.Real.floats l.fn.x) l.y)))

@@ -1,66 +1,44 @@
--- `back_by_rows` meets its contract. The invariant: the rows from i on are final, and nothing else is changed. The measure is i.
--- Assumes nothing.
-use Prim.Native.Nat.{suc, ◌+◌, ◌-◌, ◌*◌, ◌<◌, ◌≤◌}
+-- `back_by_rows` meets its contract. The invariant: the last k rows are final, and nothing else is changed. Assumes nothing.
+use Prim.Native.Nat.{ℕ, suc, ◌+◌, ◌-◌, ◌*◌, ◌<◌, ◌≤◌}
 use native.Mathlib.Omega.{arith}
 use mathlib.Core.Path.{◌≡◌, refl, ◌∙◌}
-use lib.Ieee.{binary64}
 use Rattle.arithmetic_matrices.proofs.MatrixLaws.{row_end}
 use Rattle.arithmetic_matrices.proofs.PartLaws.{apart_within}
-use Rattle.lu_systems.proofs.ByRows.{row_down, rows_from, back_rows_none, back_rows_turn, back_rows_all}
+use Rattle.lu_systems.proofs.ByRows.{rows_from, back_rows_none, back_rows_turn, back_rows_all}
 use Rattle.lu_systems.proofs.rows.back_by_rows.Goals as goal
 
-pub loop-i-init : goal.loop-i-init
-loop-i-init c =
+-- the row that has k rows after it lies within the n rows
+row_within : {k n : ℕ} (m : ℕ) → k < n → (n - (k + 1)) * m + m ≤ n * m
+row_within {k} {n} m h = let b : n - (k + 1) < n = omega arith in row_end (n - (k + 1)) n m b
+
+pub loop-k-init : goal.loop-k-init
+loop-k-init g c =
     let a = c.args in
-    (omega arith, refl, refl, refl, back_rows_none binary64 a.f a.x a.n a.m a.w.now a.w.now c.requires.1 c.requires.2)
-
-pub overflow_sub-q : goal.overflow_sub-q
-overflow_sub-q c = omega (arith, row_down c.loop-i.i c.args.n c.loop-i-test.true)
-
-pub overflow_sub-y : goal.overflow_sub-y
-overflow_sub-y c = omega (arith, row_down c.loop-i.i c.args.m c.loop-i-test.true)
-
--- in a turn the row of the factors lies within them
-inside : (c : goal.In-loop-i) →
-    c.loop-i.q ≤ c.args.f + c.args.n * c.args.n
-inside c =
-    let l = c.loop-i in
-    let a = c.args in
-    let h : l.i - 1 < a.n = omega arith in
-    omega (arith, row_down l.i a.n c.loop-i-test.true, row_end (l.i - 1) a.n a.n h)
-
-pub overflow_add-q-in-loop-i : goal.overflow_add-q-in-loop-i
-overflow_add-q-in-loop-i c = omega (arith, inside c.before, row_down c.loop-i.i c.args.n c.loop-i-test.true)
+    let w = g.T.Real.floats a.w.now in
+    let e : a.n - 0 ≡ a.n = omega arith in
+    (refl, rw e (back_rows_none g.T.Real.format a.f a.x a.n a.m w w (rw (g.met.T.Real.length_law a.w.now) c.requires.1) c.requires.2))
 
 pub upper_row-requires : goal.upper_row-requires
-upper_row-requires c =
+upper_row-requires g c =
     let a = c.args in
-    let l = c.loop-i in
-    let t = c.loop-i-test.true in
-    let e : l.i - 1 + suc (a.n - l.i) ≡ a.n = omega arith in
-    let b = inside c.before in
-    let d = row_down l.i a.n t in
-    let g = row_down l.i a.m t in
-    let r = rows_from (l.i - 1) (a.n - l.i) a.n a.m e in
+    let k = c.loop-k.k in
+    let e : a.n - (c.loop-k.k + 1) + suc c.loop-k.k ≡ a.n = omega arith in
+    let d = row_within a.n c.loop-k-test.true in
+    let r = rows_from (a.n - (k + 1)) k a.n a.m e in
     (omega arith, omega arith, apart_within _ _ _ _ _ _ _ _ c.requires.2 (omega arith) (omega arith) (omega arith) (omega arith))
 
-pub loop-i-preserved : goal.loop-i-preserved
-loop-i-preserved c =
+pub loop-k-preserved : goal.loop-k-preserved
+loop-k-preserved g c =
     let row = c.upper_row in
-    let l = c.loop-i in
-    let a = c.args in
-    let d = row_down l.i a.n c.loop-i-test.true in
-    let g = row_down l.i a.m c.loop-i-test.true in (
-      omega arith,
-      row.auto.w ∙ l.invariant.1,
-      omega arith,
-      omega arith,
-      back_rows_turn binary64 a.f a.x a.n a.m a.w.now l.w c.requires.1 c.requires.2 l.i (l.i - 1) (a.n - l.i) _ _ row.new.w
-          (omega arith) (omega arith) (omega arith) (omega arith) l.invariant.4 row.ensures,
+    let l = c.loop-k in
+    let a = c.args in (
+      row.auto.w ∙ l.invariant.0,
+      back_rows_turn g.T.Real.format a.f a.x a.n a.m (g.T.Real.floats a.w.now) (g.T.Real.floats l.w) (rw (g.met.T.Real.length_law a.w.now) c.requires.1) c.requires.2 (a.n - (l.k + 1)) (a.n - l.k) l.k (g.T.Real.floats row.new.w)
+          (omega arith) (omega arith) l.invariant.1 row.ensures,
     )
 
 pub returns : goal.returns
-returns c =
-    let l = c.loop-i in
+returns g c =
+    let l = c.loop-k in
     let a = c.args in
-    back_rows_all binary64 a.f a.x a.n a.m a.w.now l.w c.requires.1 c.requires.2 l.i (omega arith) l.invariant.4
+    back_rows_all g.T.Real.format a.f a.x a.n a.m (g.T.Real.floats a.w.now) (g.T.Real.floats l.w) (rw (g.met.T.Real.length_law a.w.now) c.requires.1) c.requires.2 (a.n - l.k) (omega arith) l.invariant.1

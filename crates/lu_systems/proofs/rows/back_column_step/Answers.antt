@@ -1,20 +1,18 @@
 -- `back_column_step` meets its contract: the division, and the rows above. Assumes nothing.
+use Prim.Native.Nat.{◌+◌}
 use native.Mathlib.Omega.{arith}
-use mathlib.Core.Path.{refl}
-use lib.ListN.{length-set}
-use lib.Ieee.{binary64}
+use mathlib.Core.Path.{ap, ◌∙◌}
+use lib.ListN.{set}
+use lib.Ieee.{div}
 use Rattle.lu_systems.proofs.RowSteps.{back_column_step_is}
 use Rattle.lu_systems.proofs.rows.back_column_step.Goals as goal
 
-pub lower_column-requires : goal.lower_column-requires
-lower_column-requires c =
-    record {
-      k_lt_n = (c.requires.0, omega arith, omega (arith, c.requires.0));
-      n_in_bounds = (simp length-set c.requires.1, simp length-set c.requires.2, c.requires.3);
-    }
-
 pub returns : goal.returns
-returns c =
+returns g c =
     let a = c.args in
-    back_column_step_is binary64 a.f a.x a.n a.w.now _ c.lower_column.new.w c.requires.2 c.requires.3 a.k c.factor_at.result
-    c.requires.0 c.factor_at.ensures refl c.lower_column.ensures
+    let laws = g.met.T.Real in
+    let w = g.T.Real.floats a.w.now in
+    let read = laws.item_law _ _ _ c.index-w-x.is (omega arith) in
+    back_column_step_is g.T.Real.format a.f a.x a.n w _ (g.T.Real.floats c.lower_column.new.w) (rw (laws.length_law a.w.now) c.requires.2) c.requires.3 a.k (g.T.Real.float c.factor_at.result)
+    c.requires.0 c.factor_at.ensures
+    (laws.set_law _ _ _ ∙ ap (set w (a.x + a.k)) (laws.div_law _ _ _ c.div.ensures ∙ ap (λ v. div g.T.Real.format v (g.T.Real.float c.factor_at.result)) read)) c.lower_column.ensures

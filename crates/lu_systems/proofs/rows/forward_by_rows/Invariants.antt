@@ -1,17 +1,13 @@
 -- `forward_by_rows` meets its contract. The invariant: the first i rows are final, and nothing else is changed. Assumes nothing.
-use Prim.Native.Nat.{◌+◌, ◌-◌, ◌*◌, ◌≤◌}
+use Prim.Native.Nat.{◌*◌}
 use mathlib.Core.Path.{◌≡◌}
 use lib.ListN.{length}
-use lib.Ieee.{binary64}
 use Rattle.arithmetic_matrices.specs.Matrix.{part, put}
 use Rattle.lu_factoring.specs.Kernels.{each_column}
 use Rattle.lu_systems.proofs.ByRows.{forward_to}
 use Rattle.lu_systems.proofs.rows.forward_by_rows.Given as goal
 
 abbrev pub invariant-loop-i : goal.invariant-loop-i
-invariant-loop-i l =
-    (l.i ≤ l.n) × (length l.w ≡ length l.initial.w) × (l.q ≡ l.f + l.i * l.n) × (l.y ≡ l.x + l.i * l.m)
-    × (l.w ≡ put l.initial.w l.x (each_column l.n l.m (forward_to binary64 l.n (part l.initial.w l.f (l.n * l.n)) l.i) (part l.initial.w l.x (l.n * l.m))))
-
-abbrev pub decreases-loop-i : goal.decreases-loop-i
-decreases-loop-i l = l.n - l.i
+invariant-loop-i g l =
+    let w = g.T.Real.floats l.initial.w in
+    (length l.w ≡ length l.initial.w) × (g.T.Real.floats l.w ≡ put w l.x (each_column l.n l.m (forward_to g.T.Real.format l.n (part w l.f (l.n * l.n)) l.i) (part w l.x (l.n * l.m))))

@@ -1,8 +1,6 @@
 -- `forward_rows` meets its contract: where there is one column, the matrix is that column. Assumes nothing.
 use Prim.Native.Nat.{◌*◌}
-use native.Mathlib.Nat.{mul-one}
-use mathlib.Core.Path.{◌≡◌, ◌∙◌}
-use lib.Ieee.{binary64}
+use mathlib.Core.Path.{◌∙◌}
 use Rattle.arithmetic_matrices.specs.Matrix.{part}
 use Rattle.arithmetic_matrices.proofs.PartLaws.{length_part}
 use Rattle.lu_factoring.specs.Solve.{forward}
@@ -10,23 +8,14 @@ use Rattle.lu_factoring.proofs.SolveLaws.{length-forward}
 use Rattle.lu_factoring.proofs.RowLaws.{each_one}
 use Rattle.lu_systems.proofs.rows.forward_rows.Goals as goal
 
-pub forward_column-requires : goal.forward_column-requires
-forward_column-requires c =
-    let a = c.args in
-    let e : a.n * a.m ≡ a.n = rw c.if-m-eq1.true (mul-one a.n) in
-    (c.requires.0, rw e at c.requires.1, rw e at c.requires.2)
-
-pub forward_by_rows-requires : goal.forward_by_rows-requires
-forward_by_rows-requires c = c.requires
-
 pub returns-then-m-eq1 : goal.returns-then-m-eq1
-returns-then-m-eq1 c =
+returns-then-m-eq1 g c =
     let a = c.args in
-    let F = part a.w.now a.f (a.n * a.n) in
-    let l = part a.w.now a.x a.n in
+    let F = part (g.T.Real.floats a.w.now) a.f (a.n * a.n) in
+    let l = part (g.T.Real.floats a.w.now) a.x a.n in
     rw c.if-m-eq1.true
     (c.forward_column.ensures
-    ∙ each_one a.w.now a.x a.n (λ u. forward binary64 a.n F u a.n) (length-forward binary64 a.n F l a.n (length_part a.w.now a.x a.n)))
+    ∙ each_one (g.T.Real.floats a.w.now) a.x a.n (λ u. forward g.T.Real.format a.n F u a.n) (length-forward g.T.Real.format a.n F l a.n (length_part (g.T.Real.floats a.w.now) a.x a.n)))
 
 pub returns-else-m-eq1 : goal.returns-else-m-eq1
-returns-else-m-eq1 c = c.forward_by_rows.ensures
+returns-else-m-eq1 g c = c.forward_by_rows.ensures

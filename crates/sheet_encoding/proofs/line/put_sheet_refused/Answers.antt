@@ -5,10 +5,5 @@ use Rattle.sheet_encoding.specs.Parse.{sheet_numbered}
 use Rattle.sheet_encoding.proofs.LineLaws.{refused_line_lem}
 use Rattle.sheet_encoding.proofs.line.put_sheet_refused.Goals as goal
 
-pub returns : goal.returns
-returns c =
-    let line = c.put_refused.ensures in
-    record {
-      wrote = rw (← refused_line_lem binary64 0 _ _ _ (sheet_numbered c.args.why) [] c.sheet_code_of.ensures) line.wrote;
-      upper_bound = line.upper_bound;
-    }
+pub returns-clause-wrote : goal.returns-clause-wrote
+returns-clause-wrote c = rw (← refused_line_lem binary64 0 _ _ _ (sheet_numbered c.args.why) [] c.from.ensures) c.put_refused.ensures.wrote

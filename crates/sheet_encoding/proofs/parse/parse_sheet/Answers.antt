@@ -1,43 +1,32 @@
 -- `parse_sheet` meets its contract. Assumes nothing.
-use Prim.Native.Nat.{◌<◌}
-use mathlib.Core.Path.{◌∙◌}
-use native.Mathlib.Omega.{arith}
-use native.Mathlib.Nat.{mul-le-mul}
-use Rattle.sheet_encoding.specs.Parse.{parse_sheet}
+use Rattle.std.proofs.Common.{rules}
+use Rattle.sheet_encoding.specs.Parse.{parse_end, parse_each, parse_tasks, parse_exponents, parse_directions, parse_sheet}
 use Rattle.sheet_encoding.proofs.parse.parse_sheet.Goals as goal
 
-pub overflow_mul-n : goal.overflow_mul-n
-overflow_mul-n c =
-    let v = c.in-Value.n in
-    let h : v < 9 = rw c.in-Value.is at c.order.ensures.result_bound in
-    let m = mul-le-mul {n₁ = v} {m₁ = v} {n₂ = 8} {m₂ = 8} (omega arith) (omega arith) in
-    omega (arith, m)
-
-pub overflow_mul-n-in-Value : goal.overflow_mul-n-in-Value
-overflow_mul-n-in-Value c =
-    let v = c.in-Value.n in
-    let h : v < 9 = rw c.in-Value.is at c.order.ensures.result_bound in
-    let m = mul-le-mul {n₁ = v} {m₁ = v} {n₂ = 8} {m₂ = 8} (omega arith) (omega arith) in
-    omega (arith, m)
-
-pub overflow_add-n : goal.overflow_add-n
-overflow_add-n c =
-    let v = c.in-Value.n in
-    let h : v < 9 = rw c.in-Value.is at c.order.ensures.result_bound in
-    let m = mul-le-mul {n₁ = v} {m₁ = v} {n₂ = 8} {m₂ = 8} (omega arith) (omega arith) in
-    omega (arith, m)
-
-pub parse_directions-requires : goal.parse_directions-requires
-parse_directions-requires c =
-    let v = c.in-Value.n in
-    let h : v < 9 = rw c.in-Value.is at c.order.ensures.result_bound in
-    let m = mul-le-mul {n₁ = v} {m₁ = v} {n₂ = 8} {m₂ = 8} (omega arith) (omega arith) in
-    omega (arith, m)
-
-pub returns-in-Value : goal.returns-in-Value
+pub returns-in_err-n : goal.returns-in_err-n
 unfolding parse_sheet
-returns-in-Value c = c.parse_directions.ensures ∙ rw (← c.order.ensures.value, c.in-Value.is)
+returns-in_err-n c = search rules
 
-pub returns-in-No : goal.returns-in-No
-unfolding parse_sheet
-returns-in-No c = rw (← c.order.ensures.value, c.in-No.is)
+pub returns-in_err-d : goal.returns-in_err-d
+unfolding parse_sheet parse_directions
+returns-in_err-d c = search rules
+
+pub returns-in_err-e : goal.returns-in_err-e
+unfolding parse_sheet parse_directions parse_exponents
+returns-in_err-e c = search rules
+
+pub returns-in_err-t : goal.returns-in_err-t
+unfolding parse_sheet parse_directions parse_exponents parse_tasks
+returns-in_err-t c = search rules
+
+pub returns-in_err-tasks : goal.returns-in_err-tasks
+unfolding parse_sheet parse_directions parse_exponents parse_tasks parse_each
+returns-in_err-tasks c = search rules
+
+pub returns-then-end-s : goal.returns-then-end-s
+unfolding parse_sheet parse_directions parse_exponents parse_tasks parse_each parse_end
+returns-then-end-s c = search rules
+
+pub returns : goal.returns
+unfolding parse_sheet parse_directions parse_exponents parse_tasks parse_each parse_end
+returns c = search rules

@@ -1,37 +1,12 @@
 -- `section` meets its contract. Assumes nothing.
-use Prim.Native.Nat.{◌<◌}
-use mathlib.Core.Path.{◌∙◌}
-use native.Mathlib.Omega.{arith}
-use native.Mathlib.Nat.{mul-le-mul}
+use Rattle.std.proofs.Common.{rules}
 use Rattle.sheet_encoding.specs.Parse.{section}
 use Rattle.sheet_encoding.proofs.parse.section.Goals as goal
 
-pub returns-in_default : goal.returns-in_default
+pub returns-in_err-v-clause-value : goal.returns-in_err-v-clause-value
 unfolding section
-returns-in_default c =
-    record {
-      value = rw (← c.byte_in-first.ensures.value, c.in_default.is);
-      result_bound = c.byte_in-first.ensures.result_bound (omega arith);
-    }
+returns-in_err-v-clause-value c = search rules
 
-pub overflow_mul-v : goal.overflow_mul-v
-overflow_mul-v c =
-    let v = c.in-Value.v in
-    let h : v < 9 = rw c.in-Value.is at (c.byte_in-first.ensures.result_bound (omega arith)) in
-    omega (arith, mul-le-mul {n₁ = v} {m₁ = c.args.size} {n₂ = 8} {m₂ = 512} (omega arith) (omega arith))
-
-pub bytes_after-requires : goal.bytes_after-requires
-bytes_after-requires c =
-    let v = c.in-Value.v in
-    let h : v < 9 = rw c.in-Value.is at (c.byte_in-first.ensures.result_bound (omega arith)) in
-    (omega arith, omega (arith, mul-le-mul {n₁ = v} {m₁ = c.args.size} {n₂ = 8} {m₂ = 512} (omega arith) (omega arith)))
-
-pub returns : goal.returns
+pub returns-clause-value : goal.returns-clause-value
 unfolding section
-returns c =
-    let v = c.in-Value.v in
-    let h : v < 9 = rw c.in-Value.is at (c.byte_in-first.ensures.result_bound (omega arith)) in
-    record {
-      value = c.bytes_after.ensures.value ∙ rw (← c.byte_in-first.ensures.value, c.in-Value.is);
-      result_bound = omega (arith, c.bytes_after.ensures.result_bound);
-    }
+returns-clause-value c = search rules

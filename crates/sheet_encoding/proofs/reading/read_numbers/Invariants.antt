@@ -1,5 +1,5 @@
 -- `read_numbers` meets its contract. Assumes nothing.
-use Prim.Native.Nat.{◌-◌, ◌≤◌}
+use Prim.Native.Nat.{◌≤◌}
 use mathlib.Core.Path.{◌≡◌}
 use lib.ListN.{length}
 use lib.Ieee.{binary64}
@@ -9,6 +9,3 @@ use Rattle.sheet_encoding.proofs.reading.read_numbers.Given as goal
 
 abbrev pub invariant-loop-i : goal.invariant-loop-i
 invariant-loop-i l = (l.i ≤ length l.initial.m) × (length l.m ≡ length l.initial.m) × (l.m ≡ put l.initial.m 0 (tab l.i (entry_at binary64 l.s l.p)))
-
-abbrev pub decreases-loop-i : goal.decreases-loop-i
-decreases-loop-i l = length l.initial.m - l.i

@@ -2,41 +2,54 @@
 use Prim.Native.Nat.{ℕ}
 use lib.Ieee.{binary64}
 use Rattle.functions_definitions.specs.Calls.{expm, logm, sqrtm, powm, cosm, sinm}
-use Rattle.sheet_tasks.proofs.TaskLaws.{chosen_one, value_0, value_1, value_2, value_3, value_4, value_5}
+use Rattle.sheet_tasks.specs.Tasks.{value_for, value_report}
+use Rattle.sheet_tasks.proofs.TaskLaws.{chosen_one}
 use Rattle.sheet_tasks.proofs.task.value.Goals as goal
 
-pub returns-then-code-eq0 : goal.returns-then-code-eq0
-returns-then-code-eq0 c =
+pub returns-in-Expm : goal.returns-in-Expm
+unfolding value_for value_report
+returns-in-Expm c =
     let a = c.args in
-    let both = chosen_one a.n (λ (x w : ℕ). expm binary64 a.n a.n a.a.now x w) _ _ _ _ _ _ _ _ _ c.requires.0 c.requires.1 (value_0 binary64 a.n a.a.now a.p a.code c.if-code-eq0.true) c.expm_with.ensures.one_output_with c.expm_with.ensures.report_value in
-    record { one_output_with = both.0; report_value = both.1 }
+    let call = c.expm_with.ensures in
+    let both = chosen_one a.n (λ (x w : ℕ). expm binary64 a.n a.n a.a.now x w) _ c.requires.0 c.requires.1 (call.one_output_with, call.report_value) in
+    rw c.in-Expm.is record { one_output_with = both.0; report_value = both.1 }
 
-pub returns-then-code-eq1 : goal.returns-then-code-eq1
-returns-then-code-eq1 c =
+pub returns-in-Logm : goal.returns-in-Logm
+unfolding value_for value_report
+returns-in-Logm c =
     let a = c.args in
-    let both = chosen_one a.n (λ (x w : ℕ). logm binary64 a.n a.n a.a.now x w) _ _ _ _ _ _ _ _ _ c.requires.0 c.requires.1 (value_1 binary64 a.n a.a.now a.p a.code c.if-code-eq0.false c.if-code-eq1.true) c.logm_with.ensures.one_output_with c.logm_with.ensures.report_value in
-    record { one_output_with = both.0; report_value = both.1 }
+    let call = c.logm_with.ensures in
+    let both = chosen_one a.n (λ (x w : ℕ). logm binary64 a.n a.n a.a.now x w) _ c.requires.0 c.requires.1 (call.one_output_with, call.report_value) in
+    rw c.in-Logm.is record { one_output_with = both.0; report_value = both.1 }
 
-pub returns-then-code-eq2 : goal.returns-then-code-eq2
-returns-then-code-eq2 c =
+pub returns-in-Sqrtm : goal.returns-in-Sqrtm
+unfolding value_for value_report
+returns-in-Sqrtm c =
     let a = c.args in
-    let both = chosen_one a.n (λ (x w : ℕ). sqrtm binary64 a.n a.n a.a.now x w) _ _ _ _ _ _ _ _ _ c.requires.0 c.requires.1 (value_2 binary64 a.n a.a.now a.p a.code c.if-code-eq0.false c.if-code-eq1.false c.if-code-eq2.true) c.sqrtm_with.ensures.one_output_with c.sqrtm_with.ensures.report_value in
-    record { one_output_with = both.0; report_value = both.1 }
+    let call = c.sqrtm_with.ensures in
+    let both = chosen_one a.n (λ (x w : ℕ). sqrtm binary64 a.n a.n a.a.now x w) _ c.requires.0 c.requires.1 (call.one_output_with, call.report_value) in
+    rw c.in-Sqrtm.is record { one_output_with = both.0; report_value = both.1 }
 
-pub returns-then-code-eq3 : goal.returns-then-code-eq3
-returns-then-code-eq3 c =
+pub returns-in-Powm : goal.returns-in-Powm
+unfolding value_for value_report
+returns-in-Powm c =
     let a = c.args in
-    let both = chosen_one a.n (λ (x w : ℕ). powm binary64 a.n a.n a.a.now x w a.p) _ _ _ _ _ _ _ _ _ c.requires.0 c.requires.1 (value_3 binary64 a.n a.a.now a.p a.code c.if-code-eq0.false c.if-code-eq1.false c.if-code-eq2.false c.if-code-eq3.true) c.powm_with.ensures.one_output_with c.powm_with.ensures.report_value in
-    record { one_output_with = both.0; report_value = both.1 }
+    let call = c.powm_with.ensures in
+    let both = chosen_one a.n (λ (x w : ℕ). powm binary64 a.n a.n a.a.now x w a.p) _ c.requires.0 c.requires.1 (call.one_output_with, call.report_value) in
+    rw c.in-Powm.is record { one_output_with = both.0; report_value = both.1 }
 
-pub returns-then-code-eq4 : goal.returns-then-code-eq4
-returns-then-code-eq4 c =
+pub returns-in-Cosm : goal.returns-in-Cosm
+unfolding value_for value_report
+returns-in-Cosm c =
     let a = c.args in
-    let both = chosen_one a.n (λ (x w : ℕ). cosm binary64 a.n a.n a.a.now x w) _ _ _ _ _ _ _ _ _ c.requires.0 c.requires.1 (value_4 binary64 a.n a.a.now a.p a.code c.if-code-eq0.false c.if-code-eq1.false c.if-code-eq2.false c.if-code-eq3.false c.if-code-eq4.true) c.cosm_with.ensures.one_output_with c.cosm_with.ensures.report_value in
-    record { one_output_with = both.0; report_value = both.1 }
+    let call = c.cosm_with.ensures in
+    let both = chosen_one a.n (λ (x w : ℕ). cosm binary64 a.n a.n a.a.now x w) _ c.requires.0 c.requires.1 (call.one_output_with, call.report_value) in
+    rw c.in-Cosm.is record { one_output_with = both.0; report_value = both.1 }
 
-pub returns : goal.returns
-returns c =
+pub returns-in-Sinm : goal.returns-in-Sinm
+unfolding value_for value_report
+returns-in-Sinm c =
     let a = c.args in
-    let both = chosen_one a.n (λ (x w : ℕ). sinm binary64 a.n a.n a.a.now x w) _ _ _ _ _ _ _ _ _ c.requires.0 c.requires.1 (value_5 binary64 a.n a.a.now a.p a.code c.if-code-eq0.false c.if-code-eq1.false c.if-code-eq2.false c.if-code-eq3.false c.if-code-eq4.false) c.sinm_with.ensures.one_output_with c.sinm_with.ensures.report_value in
-    record { one_output_with = both.0; report_value = both.1 }
+    let call = c.sinm_with.ensures in
+    let both = chosen_one a.n (λ (x w : ℕ). sinm binary64 a.n a.n a.a.now x w) _ c.requires.0 c.requires.1 (call.one_output_with, call.report_value) in
+    rw c.in-Sinm.is record { one_output_with = both.0; report_value = both.1 }

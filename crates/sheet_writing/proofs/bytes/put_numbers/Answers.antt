@@ -1,32 +1,14 @@
 -- `put_numbers` meets its contract. Assumes nothing.
-use mathlib.Core.Path.{◌≡◌, refl}
 use native.Mathlib.Omega.{arith}
-use lib.ListN.{take}
-use lib.Seq.{take_all}
 use Rattle.sheet_encoding.proofs.WroteLaws.{wrote_none, wrote_more}
 use Rattle.sheet_writing.proofs.WordLaws.{number_bytes_none, number_bytes_more}
 use Rattle.sheet_writing.proofs.bytes.put_numbers.Goals as goal
 
-pub loop-i-init : goal.loop-i-init
-loop-i-init c = (omega arith, omega arith, refl, rw number_bytes_none (wrote_none _ _ (omega arith)))
+pub loop-x-init : goal.loop-x-init
+loop-x-init c = (omega arith, rw number_bytes_none (wrote_none _ _ (omega arith)))
 
-pub loop-i-preserved : goal.loop-i-preserved
-loop-i-preserved c =
-    let l = c.loop-i in
-    let a = c.args in
-    let p = c.put_bits-e in (
-      omega arith,
-      omega (arith, p.ensures.value),
-      omega (arith, p.auto.out),
-      rw (number_bytes_more a.m.now l.i (omega arith)) (wrote_more l.invariant.3 p.ensures.wrote),
-    )
-
-pub returns : goal.returns
-returns c =
-    let l = c.loop-i in
-    let a = c.args in
-    let t : take l.i a.m.now ≡ a.m.now = take_all l.i a.m.now (omega arith) in
-    record {
-      wrote = rw t at l.invariant.3;
-      value = omega arith;
-    }
+pub loop-x-preserved : goal.loop-x-preserved
+loop-x-preserved c =
+    let l = c.loop-x in
+    let p = c.put_bits-e.ensures in
+    (omega (arith, p.value), rw (number_bytes_more c.args.m.now l.x-index (omega arith)) (wrote_more l.invariant.1 p.wrote))

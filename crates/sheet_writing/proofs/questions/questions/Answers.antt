@@ -1,22 +1,16 @@
 -- `questions` meets its contract. Assumes nothing.
-use mathlib.Core.Path.{sym, ◌∙◌}
+use Rattle.std.proofs.Common.{rules, sym, ◌∙◌}
 use Rattle.sheet_writing.specs.Written.{questions}
 use Rattle.sheet_writing.proofs.QuestionLaws.{ranges_is}
 use Rattle.sheet_writing.proofs.questions.questions.Goals as goal
 
-pub returns-in_default : goal.returns-in_default
+pub returns-in_err-ranges : goal.returns-in_err-ranges
 unfolding questions
-returns-in_default c =
-    let a = c.args in
-    rw (← c.ranges-asked.ensures a.matrix.now a.direction.now a.exponent.now, c.in_default.is)
+returns-in_err-ranges c = search rules
 
 pub lengths-requires : goal.lengths-requires
-lengths-requires c =
-    let a = c.args in
-    (ranges_is _ _ (sym (c.ranges-asked.ensures a.matrix.now a.direction.now a.exponent.now) ∙ c.in-Value.is)).counts
+lengths-requires c = (ranges_is _ _ (sym c.ranges-2.ensures ∙ c.in_ok-ranges.was)).counts
 
 pub returns : goal.returns
 unfolding questions
-returns c =
-    let a = c.args in
-    c.lengths.ensures ∙ rw (← c.ranges-asked.ensures a.matrix.now a.direction.now a.exponent.now, c.in-Value.is)
+returns c = search rules

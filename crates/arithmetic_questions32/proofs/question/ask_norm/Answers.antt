@@ -1,5 +1,0 @@
--- `ask_norm` meets its contract. Assumes nothing.
-use Rattle.arithmetic_questions32.proofs.question.ask_norm.Goals as goal
-
-pub returns : goal.returns
-returns c = rw c.is_finite.ensures at c.ask.ensures

@@ -1,6 +1,0 @@
-// What every call shares: its answer, the questions it asks, and how its outputs are delivered.
-#![tactic(auto)]
-
-pub mod output;
-pub mod question;
-pub mod report;
