@@ -52,7 +52,8 @@ impl Port for f64 {
 }
 
 impl Port for f32 {
-    const ABSENT: &'static str = "built without the port's f32 calls; make them with `tools/static-libraries host_entries32`";
+    const ABSENT: &'static str =
+        "built without the port's f32 calls; make them with `tools/static-libraries host_entries32`";
 
     #[cfg(entries32)]
     fn port() -> Option<Entry<'static, f32>> {

@@ -113,4 +113,5 @@ pub fn port() -> Option<Port> {
 }
 
 /// What a program says where the library was not there when it was built.
-pub const ABSENT: &str = "built without the port's static library; make it with `tools/static-libraries sheet` and build again";
+pub const ABSENT: &str =
+    "built without the port's static library; make it with `tools/static-libraries sheet` and build again";
