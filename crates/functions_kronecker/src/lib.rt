@@ -5,12 +5,15 @@
 pub mod question;
 
 ghost use Rattle.std.specs.Prelude.{◌≡◌, ℕ, ◌+◌, ◌*◌, ◌/◌, ◌%◌, ◌<◌, ◌≤◌, length, Float};
-ghost use Rattle.arithmetic_matrices.specs.Matrix.{tab, grid, put};
+ghost use Rattle.std.specs.Float.Ieee.{add, mul};
+ghost use Rattle.arithmetic_floats.specs.Float.{one};
+ghost use Rattle.arithmetic_matrices.specs.Matrix.{tab, grid, at, put};
+ghost use Rattle.arithmetic_matrices.specs.Product.{diagonal_entry as identity_entry};
 ghost use Rattle.functions_definitions.specs.Calls.{kron_sum, kron as kron_of};
 ghost use Rattle.arithmetic_questions.specs.Outputs.{OneOutput};
 ghost use Rattle.arithmetic_questions.specs.Reports.{nothing, report_at};
 ghost use Rattle.functions_definitions.specs.Kronecker.{kron_m, kron_sum_m};
-ghost use Rattle.functions_kronecker.specs.Kernels.{kron_entry, kron_sum_entry};
+ghost use Rattle.functions_kronecker.specs.Kernels.{FormedBy};
 ghost use Rattle.arithmetic_matrices.specs.Kernels.{block_row as row_of_blocks};
 
 use crate::question::{ask_kron, ask_kron_sum};
@@ -18,60 +21,99 @@ use arithmetic_floats::real::Real;
 use arithmetic_matrices::workspace::diagonal_entry;
 use arithmetic_questions::answer::{Answer, done, refused};
 
-// Writes to y row k of block (i, j), which has q columns.
-fn block_part<T: Real, F: Fn(usize, usize, usize, usize) -> T>(
+// Writes to y row k of a block, from s and d, entry (i, j) of the first matrix and that of the identity, and from row k of b, which has q columns.
+fn block_part<T: Real, F: Fn(T, T, T, usize, usize) -> T>(
     out: &mut [T],
     y: usize,
+    s: T,
+    d: T,
     q: usize,
-    i: usize,
-    j: usize,
+    b: &[T],
     k: usize,
     entry: &F,
 )
-    requires room { y + q ≤ length out.old }
-    requires entry_pre { (l : ℕ) → l < q → F.pre entry.now i j k l }
-    ensures { (e : ℕ → ℕ → ℕ → ℕ → Float) → ((l : ℕ) (r : T) → l < q → F.post entry.now i j k l r → T.float r ≡ e i j k l) → T.floats out.new ≡ put (T.floats out.old) y (tab q (e i j k)) }
+    requires room { (y + q ≤ length out.old) × (k * q + q ≤ length b.now) }
+    requires entry_pre { F.IsAlwaysCallable entry.now }
+    ensures { (e : ℕ → Float) → ((l : ℕ) (x r : T) → l < q → T.float x ≡ at q (T.floats b.now) k l → F.post entry.now s d x k l r → T.float r ≡ e l) → T.floats out.new ≡ put (T.floats out.old) y (tab q e) }
 {
     for l in 0..q {
-        out[y + l] = entry(i, j, k, l);
+        out[y + l] = entry(s, d, b[k * q + l], k, l);
     }
 }
 
 // Writes to y row k of the n blocks of row i of blocks.
-fn block_row<T: Real, F: Fn(usize, usize, usize, usize) -> T>(
+fn block_row<T: Real, F: Fn(T, T, T, usize, usize) -> T>(
     out: &mut [T],
     y: usize,
     n: usize,
-    q: usize,
+    a: &[T],
     i: usize,
+    q: usize,
+    b: &[T],
     k: usize,
     entry: &F,
 )
-    requires room { y + n * q ≤ length out.old }
-    requires entry_pre { (j l : ℕ) → j < n → l < q → F.pre entry.now i j k l }
-    ensures { (e : ℕ → ℕ → ℕ → ℕ → Float) → ((j l : ℕ) (r : T) → j < n → l < q → F.post entry.now i j k l r → T.float r ≡ e i j k l) → T.floats out.new ≡ put (T.floats out.old) y (tab (n * q) (row_of_blocks q e i k)) }
+    requires room { (y + n * q ≤ length out.old) × (i * n + n ≤ length a.now) × (k * q + q ≤ length b.now) }
+    requires entry_pre { F.IsAlwaysCallable entry.now }
+    ensures { (e : ℕ → ℕ → ℕ → ℕ → Float) → FormedBy T.float n (T.floats a.now) q (T.floats b.now) i k (F.post entry.now) e → T.floats out.new ≡ put (T.floats out.old) y (tab (n * q) (row_of_blocks q e i k)) }
 {
+    let mut z = y;
     for j in 0..n {
-        block_part(out, y + j * q, q, i, j, k, entry);
+        block_part(
+            out,
+            z,
+            a[i * n + j],
+            diagonal_entry(T::ONE, i, j),
+            q,
+            b,
+            k,
+            entry,
+        );
+        z += q;
     }
 }
 
-// Writes to out m by n blocks of p rows and q columns: entry (k, l) of block (i, j) is entry(i, j, k, l).
-fn blocks_into<T: Real, F: Fn(usize, usize, usize, usize) -> T>(
+// Writes to y the p rows of the n blocks of row i of blocks.
+fn block_rows<T: Real, F: Fn(T, T, T, usize, usize) -> T>(
+    out: &mut [T],
+    y: usize,
+    n: usize,
+    a: &[T],
+    i: usize,
+    p: usize,
+    q: usize,
+    b: &[T],
+    entry: &F,
+)
+    requires room { (n * q ≤ 64) × (y + p * (n * q) ≤ length out.old) × (i * n + n ≤ length a.now) × (length b.now ≡ p * q) }
+    requires entry_pre { F.IsAlwaysCallable entry.now }
+    ensures { (e : ℕ → ℕ → ℕ → ℕ → Float) → ((k : ℕ) → k < p → FormedBy T.float n (T.floats a.now) q (T.floats b.now) i k (F.post entry.now) e) → T.floats out.new ≡ put (T.floats out.old) y (grid p (n * q) (row_of_blocks q e i)) }
+{
+    let width = n * q;
+    for k in 0..p {
+        block_row(out, y + k * width, n, a, i, q, b, k, entry);
+    }
+}
+
+// Writes to out m by n blocks of p rows and q columns: entry (k, l) of block (i, j) is entry(s, d, x, k, l), where s is entry (i, j) of a, d that of the
+// identity, and x entry (k, l) of b.
+fn blocks_into<T: Real, F: Fn(T, T, T, usize, usize) -> T>(
     out: &mut [T],
     m: usize,
     n: usize,
+    a: &[T],
     p: usize,
     q: usize,
+    b: &[T],
     entry: &F,
 )
-    requires few { (m * p ≤ 64) × (n * q ≤ 64) × (length out.old ≡ (m * p) * (n * q)) }
-    requires entry_pre { (i j k l : ℕ) → i < m → j < n → k < p → l < q → F.pre entry.now i j k l }
-    ensures { (e : ℕ → ℕ → ℕ → ℕ → Float) → ((i j k l : ℕ) (r : T) → i < m → j < n → k < p → l < q → F.post entry.now i j k l r → T.float r ≡ e i j k l) → T.floats out.new ≡ grid (m * p) (n * q) (λ r. row_of_blocks q e (r / p) (r % p)) }
+    requires few { (p ≤ 64) × (m * p ≤ 64) × (n * q ≤ 64) × (length out.old ≡ (m * p) * (n * q)) × (length a.now ≡ m * n) × (length b.now ≡ p * q) }
+    requires entry_pre { F.IsAlwaysCallable entry.now }
+    ensures { (e : ℕ → ℕ → ℕ → ℕ → Float) → ((i k : ℕ) → i < m → k < p → FormedBy T.float n (T.floats a.now) q (T.floats b.now) i k (F.post entry.now) e) → T.floats out.new ≡ grid (m * p) (n * q) (λ r. row_of_blocks q e (r / p) (r % p)) }
 {
-    let width = n * q;
-    for r in 0..m * p {
-        block_row(out, r * width, n, q, r / p, r % p, entry);
+    let size = p * (n * q);
+    for i in 0..m {
+        block_rows(out, i * size, n, a, i, p, q, b, entry);
     }
 }
 
@@ -81,11 +123,10 @@ pub fn kron_into<T: Real>(m: usize, n: usize, a: &[T], p: usize, q: usize, b: &[
     requires a_len { (length a.now ≡ m * n) × (length b.now ≡ p * q) × (length out.old ≡ (m * p) * (n * q)) }
     ensures { T.floats out.new ≡ kron_m T.format m n (T.floats a.now) p q (T.floats b.now) }
 {
-    let entry = |i: usize, j: usize, k: usize, l: usize|
-        requires { (i * n + j < length a.now) × (k * q + l < length b.now) }
-        ensures { T.float result ≡ kron_entry T.format n (T.floats a.entry.now) q (T.floats b.entry.now) i j k l }
-    { a[i * n + j] * b[k * q + l] };
-    blocks_into(out, m, n, p, q, &entry);
+    let entry = |s: T, _d: T, x: T, _k: usize, _l: usize|
+        ensures { T.float result ≡ mul T.format (T.float s) (T.float x) }
+    { s * x };
+    blocks_into(out, m, n, a, p, q, b, &entry);
 }
 
 // Writes to out the Kronecker sum of a, of order m, and b, of order p: a ⊗ I + I ⊗ b, with each product by an entry of I formed.
@@ -94,11 +135,10 @@ pub fn kron_sum_into<T: Real>(m: usize, a: &[T], p: usize, b: &[T], out: &mut [T
     requires a_len { (length a.now ≡ m * m) × (length b.now ≡ p * p) × (length out.old ≡ (m * p) * (m * p)) }
     ensures { T.floats out.new ≡ kron_sum_m T.format m (T.floats a.now) p (T.floats b.now) }
 {
-    let entry = |i: usize, j: usize, k: usize, l: usize|
-        requires { (i * m + j < length a.now) × (k * p + l < length b.now) }
-        ensures { T.float result ≡ kron_sum_entry T.format m (T.floats a.entry.now) p (T.floats b.entry.now) i j k l }
-    { a[i * m + j] * diagonal_entry(T::ONE, k, l) + diagonal_entry(T::ONE, i, j) * b[k * p + l] };
-    blocks_into(out, m, m, p, p, &entry);
+    let entry = |s: T, d: T, x: T, k: usize, l: usize|
+        ensures { T.float result ≡ add T.format (mul T.format (T.float s) (identity_entry one k l)) (mul T.format (T.float d) (T.float x)) }
+    { s * diagonal_entry(T::ONE, k, l) + d * x };
+    blocks_into(out, m, m, a, p, p, b, &entry);
 }
 
 // The Kronecker product of a, m by n, and b, p by q: out, m * p by n * q, is written where the call is not refused.

@@ -1,34 +1,35 @@
--- `blocks_into` meets its contract, by the loop over the rows. Assumes nothing.
+-- `blocks_into` meets its contract, by the loop over the rows of blocks. Assumes nothing.
 use Prim.Native.Nat.{◌*◌}
-use native.Mathlib.Nat.{zero-mul}
-use mathlib.Core.Path.{sym, ◌∙◌}
-use Rattle.arithmetic_matrices.specs.Matrix.{grid}
-use Rattle.arithmetic_matrices.proofs.MatrixLaws.{length-grid, row_lt, column_lt, more_rows}
-use Rattle.arithmetic_matrices.proofs.PartLaws.{put_all}
-use Rattle.arithmetic_matrices.proofs.FilledLaws.{filled_start, filled_end, all_rows}
-use Rattle.functions_kronecker.proofs.KroneckerLaws.{filled_next}
+use native.Mathlib.Nat.{zero-mul, mul-le-mul}
+use native.Mathlib.Omega.{arith}
+use mathlib.Core.Path.{◌∙◌}
+use Rattle.arithmetic_matrices.proofs.MatrixLaws.{more_rows, row_end}
+use Rattle.arithmetic_matrices.proofs.FilledLaws.{blocks_start, blocks_end}
+use Rattle.functions_kronecker.proofs.KroneckerLaws.{blocks_next, blocks_inside}
 use Rattle.functions_kronecker.proofs.blocks_into.Goals as goal
 
-pub block_row-requires-clause-entry_pre : goal.block_row-requires-clause-entry_pre
-block_row-requires-clause-entry_pre g c j l hj hl =
-    let a = c.args in
-    let h = c.loop-r-test.true in
-    c.requires.entry_pre _ j _ l (row_lt a.m a.p c.loop-r.r h) hj (column_lt a.m a.p c.loop-r.r h) hl
+pub overflow_mul-size-2 : goal.overflow_mul-size-2
+overflow_mul-size-2 g c = omega (arith, mul-le-mul c.requires.few.0 c.requires.few.2)
 
-pub loop-r-init : goal.loop-r-init
-loop-r-init g c e h = rw zero-mul filled_start
-
-pub loop-r-preserved : goal.loop-r-preserved
-loop-r-preserved g c e h =
+pub overflow_mul-i : goal.overflow_mul-i
+overflow_mul-i g c =
     let a = c.args in
-    let low = c.loop-r-test.true in
-    filled_next (c.loop-r.invariant e h) low
-    (c.block_row.ensures e (λ j l r hj hl p. h _ j _ l r (row_lt a.m a.p c.loop-r.r low) hj (column_lt a.m a.p c.loop-r.r low) hl p))
-    (more_rows c.loop-r.r (a.n * a.q))
+    let few = c.requires.few in
+    omega (arith, blocks_inside c.loop-i.i a.m a.p (a.n * a.q) c.loop-i-test.true, mul-le-mul few.1 few.2)
+
+pub block_rows-requires-clause-room : goal.block_rows-requires-clause-room
+block_rows-requires-clause-room g c =
+    let a = c.args in
+    let few = c.requires.few in
+    (few.2, omega (arith, blocks_inside c.loop-i.i a.m a.p (a.n * a.q) c.loop-i-test.true, few.3, c.loop-i.auto.out), omega (arith, row_end c.loop-i.i a.m a.n c.loop-i-test.true, few.4), few.5)
+
+pub loop-i-init : goal.loop-i-init
+loop-i-init g c e h = rw zero-mul blocks_start
+
+pub loop-i-preserved : goal.loop-i-preserved
+loop-i-preserved g c e h =
+    let low = c.loop-i-test.true in
+    blocks_next (c.loop-i.invariant e h) low (c.block_rows.ensures e (λ k few. h _ k low few)) (more_rows c.loop-i.i (c.args.p * (c.args.n * c.args.q)))
 
 pub returns : goal.returns
-returns g c e h =
-    let a = c.args in
-    let all = grid (a.m * a.p) (a.n * a.q) (all_rows e a.p a.q) in
-    filled_end (c.loop-r.invariant e h) c.loop-r-test.false
-    ∙ put_all (g.T.Real.floats a.out.now) all (length-grid (a.m * a.p) (a.n * a.q) (all_rows e a.p a.q) ∙ sym (g.met.T.Real.length_law a.out.now ∙ c.requires.few.2))
+returns g c e h = blocks_end (c.loop-i.invariant e h) c.loop-i-test.false (g.met.T.Real.length_law c.args.out.now ∙ c.requires.few.3)
