@@ -4,7 +4,7 @@ use mathlib.Core.Path.{◌≡◌, refl, ap, sym, subst, ◌∙◌}
 use mathlib.Core.Bool.{true, false}
 use mathlib.Core.List.{List, [], ◌∷◌, ◌++◌, append-nil}
 use borrow.Author.Tests.{lt-ltb, le-ltb}
-use lib.Dec.{lit<, ltb}
+use lib.Dec.{lit<, lit≤}
 use lib.ListN.{length}
 use lib.Ieee.{Float, Format, binary64}
 use Rattle.arithmetic_questions.specs.Result.{Result, refused, done, exit, outcome}
@@ -15,10 +15,13 @@ use Rattle.arithmetic_questions.specs.declared.answer.Report.{Report}
 use Rattle.arithmetic_questions.proofs.ReportLaws.{report_as}
 use Rattle.functions_definitions.specs.Derivatives.{Condition}
 use Rattle.functions_definitions.specs.Conditions.{Conditioned}
+use Rattle.functions_definitions.specs.Calls.{cond_expm}
+use Rattle.functions_definitions.specs.Reports.{cond_exp_report}
+use Rattle.sheet_encoding.specs.Bytes.{numbers_at}
 use Rattle.sheet_encoding.specs.Text.{result_line, carrying}
-use Rattle.sheet_encoding.specs.Parse.{takes_direction}
+use Rattle.sheet_encoding.specs.Parse.{direction_at, exponent_at, takes_direction}
 use Rattle.sheet_encoding.specs.Kernels.{Lined}
-use Rattle.sheet_tasks.specs.Tasks.{workspace_length, both, ratio, task_result, task_report, ending, task_numbers}
+use Rattle.sheet_tasks.specs.Tasks.{workspace_length, value_for, value_report, derivative_for, derivative_report, both, ratio, exponent_for, task_result, task_report, ending, task_numbers}
 use Rattle.sheet_tasks.specs.Functions.{value_code, derivative_code}
 use Rattle.sheet_tasks.specs.Kernels.{SheetMatrix, value_numbers, derivative_numbers, condition_numbers}
 use Rattle.sheet_tasks.specs.declared.task.Sheet.{Sheet}
@@ -86,11 +89,25 @@ value_lt Powm = lit< tt
 value_lt Cosm = lit< tt
 value_lt Sinm = lit< tt
 
-derivative_is : (d : Derivative) → (ltb (derivative_code d) 6 ≡ false) × (takes_direction (derivative_code d) ≡ true)
-derivative_is FrechetExpm = (refl, refl)
-derivative_is FrechetLogm = (refl, refl)
-derivative_is FrechetSqrtm = (refl, refl)
-derivative_is FrechetSqrtmSylvester = (refl, refl)
+derivative_is : (d : Derivative) → (6 ≤ derivative_code d) × (takes_direction (derivative_code d) ≡ true)
+derivative_is FrechetExpm = (lit≤ tt, refl)
+derivative_is FrechetLogm = (lit≤ tt, refl)
+derivative_is FrechetSqrtm = (lit≤ tt, refl)
+derivative_is FrechetSqrtmSylvester = (lit≤ tt, refl)
+
+-- the numbers of a task by the kind of its code, in any format; a is the sheet's matrix
+module _ (f : Format) (s : List ℕ) (n d code i : ℕ) (a : List Float) (h : a ≡ numbers_at f s 1 (n * n)) where
+  pub task_value : code < 6 → ending (value_report f n a (exponent_for f s code (exponent_at n d i)) code) (value_for f n a (exponent_for f s code (exponent_at n d i)) code) ≡ task_numbers f s n d code i
+  unfolding task_result task_report
+  task_value l = rw (h, lt-ltb code 6 l)
+
+  pub task_derivative : 6 ≤ code → takes_direction code ≡ true → ending (derivative_report f n a (numbers_at f s (direction_at n i) (n * n)) code) (both (derivative_for f n a (numbers_at f s (direction_at n i) (n * n)) code)) ≡ task_numbers f s n d code i
+  unfolding task_result task_report
+  task_derivative l k = rw (h, le-ltb code 6 l, k)
+
+  pub task_condition : 6 ≤ code → takes_direction code ≡ false → ending (cond_exp_report f n a) (ratio (cond_expm f n n a workspace_length)) ≡ task_numbers f s n d code i
+  unfolding task_result task_report
+  task_condition l k = rw (h, le-ltb code 6 l, k)
 
 -- what the task with this code and index gives, from the sheet and its matrix
 module _ (x : Sheet) (code i : ℕ) (h : SheetMatrix x) where
@@ -98,13 +115,12 @@ module _ (x : Sheet) (code i : ℕ) (h : SheetMatrix x) where
   numbers = task_numbers binary64 x.bytes.now x.counts.order x.counts.directions code i
 
   pub value_task : (v : Value) → code ≡ value_code v → value_numbers x (value_code v) i ≡ numbers
-  unfolding task_result task_report
-  value_task v e = rw (e, h, lt-ltb (value_code v) 6 (value_lt v))
+  value_task v e = rw e (task_value binary64 x.bytes.now x.counts.order x.counts.directions (value_code v) i x.matrix.now h (value_lt v))
 
   pub derivative_task : (d : Derivative) → code ≡ derivative_code d → derivative_numbers x (derivative_code d) i ≡ numbers
-  unfolding task_result task_report
-  derivative_task d e = rw (e, h, (derivative_is d).0, (derivative_is d).1)
+  derivative_task d e =
+      let k = derivative_is d in
+      rw e (task_derivative binary64 x.bytes.now x.counts.order x.counts.directions (derivative_code d) i x.matrix.now h k.0 k.1)
 
   pub condition_task : (6 ≤ code) × (takes_direction code ≡ false) → condition_numbers x ≡ numbers
-  unfolding task_result task_report
-  condition_task (l, k) = rw (h, le-ltb code 6 l, k)
+  condition_task (l, k) = task_condition binary64 x.bytes.now x.counts.order x.counts.directions code i x.matrix.now h l k
