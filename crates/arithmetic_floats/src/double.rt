@@ -1,10 +1,11 @@
 // `f64` as a width of floats.
-ghost use Rattle.std.specs.Prelude.{◌≡◌, ◌*◌, ◌^◌, ◌<◌, from_bits, to_bits};
+ghost use Rattle.std.specs.Prelude.{◌≡◌, false, ◌*◌, ◌^◌, ◌<◌, from_bits, to_bits};
 ghost use Rattle.std.specs.Float.{binary64, nan};
+ghost use Rattle.std.specs.Float.Ieee.{round};
 ghost use Rattle.std.proofs.Common.{refl, ◌∙◌};
 ghost use Rattle.std.proofs.lemmas.List.{get_or_default};
 ghost use Rattle.arithmetic_floats.specs.Comparisons.{less_is_lt, at_most_is_le};
-ghost use Rattle.arithmetic_floats.specs.Float.{+zero, one, half, +infinity, epsilon};
+ghost use Rattle.arithmetic_floats.specs.Float.{+zero, one, half, +infinity, constant, epsilon};
 ghost use Rattle.arithmetic_floats.specs.Root.{Scaled, sqrt_units};
 
 use crate::real::Real;
@@ -28,6 +29,10 @@ impl Real for f64 {
     const HALF: f64 = 0.5;
 
     ghost HALF = { half };
+
+    const TENTH: f64 = 0.1;
+
+    ghost TENTH = { constant binary64 (round binary64 false 1 10) };
 
     const INFINITY: f64 = 1.0 / 0.0;
 
@@ -94,6 +99,8 @@ impl Real for f64 {
     ghost one_law = { refl };
 
     ghost half_law = { refl };
+
+    ghost tenth_law = { refl };
 
     ghost infinity_law = { refl };
 

@@ -2,7 +2,7 @@
 ghost use Rattle.std.specs.Prelude.{◌≡◌, true, false, ◌^◌, ◌<◌, ◌≤◌, T, ℕ, List, pos, length, get_or, set, take, drop, from_bits};
 ghost use Rattle.std.specs.Float.{Float, Format, binary64, nan};
 ghost use Rattle.std.specs.Float.Ieee as Ieee;
-ghost use Rattle.std.specs.Float.Ieee.{of_int, emax, prec};
+ghost use Rattle.std.specs.Float.Ieee.{of_int, round, emax, prec};
 ghost use Rattle.std.specs.Float.Ieee.Scale.{finite};
 ghost use Rattle.std.specs.Float.Ieee.Positive.{positive, num, den};
 ghost use Rattle.std.specs.Ordering.{partial_lt, partial_le};
@@ -38,6 +38,11 @@ pub trait Real: Copy
     const HALF: Self;
 
     ghost HALF: { Self };
+
+    // 0.1, rounded as an `f64` and then to this width.
+    const TENTH: Self;
+
+    ghost TENTH: { Self };
 
     const INFINITY: Self;
 
@@ -112,6 +117,8 @@ pub trait Real: Copy
     ghost one_law: { float ONE ≡ one };
 
     ghost half_law: { float HALF ≡ half };
+
+    ghost tenth_law: { float TENTH ≡ constant format (round binary64 false 1 10) };
 
     ghost infinity_law: { float INFINITY ≡ +infinity };
 

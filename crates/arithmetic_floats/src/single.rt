@@ -1,10 +1,11 @@
 // `f32` as a width of floats.
-ghost use Rattle.std.specs.Prelude.{◌≡◌, ◌*◌, ◌^◌, ◌<◌, from_bits, to_bits};
-ghost use Rattle.std.specs.Float.{binary32, nan};
+ghost use Rattle.std.specs.Prelude.{◌≡◌, false, ◌*◌, ◌^◌, ◌<◌, from_bits, to_bits};
+ghost use Rattle.std.specs.Float.{binary32, binary64, nan};
+ghost use Rattle.std.specs.Float.Ieee.{round};
 ghost use Rattle.std.proofs.Common.{refl, ◌∙◌};
 ghost use Rattle.std.proofs.lemmas.List.{get_or_default};
 ghost use Rattle.arithmetic_floats.specs.Comparisons.{less_is_lt, at_most_is_le};
-ghost use Rattle.arithmetic_floats.specs.Float.{+zero, one, half, +infinity, epsilon};
+ghost use Rattle.arithmetic_floats.specs.Float.{+zero, one, half, +infinity, constant, epsilon};
 ghost use Rattle.arithmetic_floats.specs.Root.{Scaled, sqrt_units};
 
 use crate::real::Real;
@@ -29,6 +30,10 @@ impl Real for f32 {
     const HALF: f32 = 0.5;
 
     ghost HALF = { half };
+
+    const TENTH: f32 = 0.1;
+
+    ghost TENTH = { constant binary32 (round binary64 false 1 10) };
 
     const INFINITY: f32 = 1.0 / 0.0;
 
@@ -95,6 +100,8 @@ impl Real for f32 {
     ghost one_law = { refl };
 
     ghost half_law = { refl };
+
+    ghost tenth_law = { refl };
 
     ghost infinity_law = { refl };
 

@@ -30,7 +30,10 @@ pub fn copy_out<T: Real>(w: &[T], a: usize, out: &mut [T])
     ensures { T.floats out.new ≡ part (T.floats w.now) (256 * a) (length out.old) }
 {
     let x = 256 * a;
-    out.copy_from_slice(&w[x..x + out.len()]);
+    // Not `copy_from_slice`: only a loop lets a wrong program spoil each number (must-fail/fixed_matrix).
+    for k in 0..out.len() {
+        out[k] = w[x + k];
+    }
 }
 
 // Copies the matrix of order n in slot a to slot c.

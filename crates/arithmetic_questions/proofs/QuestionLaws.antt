@@ -1,5 +1,6 @@
 -- Laws of the questions asked of a call. Assumes nothing.
 use Rattle.std.specs.Prelude.{IsErrAnd, Ok, Err, Some, None}
+use Rattle.std.specs.Result.{result_and}
 use Prim.Native.Nat.{ℕ, zero, suc, ◌+◌, ◌*◌, ◌≤◌, ◌<◌}
 use mathlib.Core.Path.{◌≡◌, refl, ap, sym, ◌∙◌}
 use mathlib.Core.Bool.{Bool, true, false, false≢true, cond, ◌&&◌}
@@ -81,6 +82,11 @@ stops {q} {l} {x} m h e = record { asks = rw (first_no_append l m, ← h.asks, e
 pub goes_on : {q r : Question} {l m : List Found} → Asks q l → q ≡ Ok tt → Asks r m → Asks r (l ++ m)
 unfolding ◌>>=◌
 goes_on {q} {r} {l} {m} h e k = record { asks = rw (first_no_append l m, ← h.asks, e) k.asks }
+
+-- both asked: the refusal of the first, or else what the second answers
+pub asked_both : {q r s : Question} {l m : List Found} → Asks q l → Asks r m → s ≡ result_and q r → Asks s (l ++ m)
+asked_both {q = Ok t} h k e = rw e (goes_on h refl k)
+asked_both {q = Err x} {m = m} h k e = rw e (stops m h refl)
 
 and_true : (a b : Bool) → (a && b) ≡ true → (a ≡ true) × (b ≡ true)
 and_true true b h = (refl, h)

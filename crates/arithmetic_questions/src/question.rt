@@ -168,9 +168,8 @@ pub fn ask_order(rows: usize, columns: usize) -> Result<(), Refusal>
 pub fn ask_lengths(first: usize, second: usize, wanted: usize, room: usize) -> Result<(), Refusal>
     ensures { found result ≡ first_no (exactly wanted first ∷ exactly wanted second ∷ at_least8192 room ∷ []) }
 {
-    ask_length(first, wanted)?;
-    ask_length(second, wanted)?;
-    ask_room(room)
+    let lengths = ask_length(first, wanted).and(ask_length(second, wanted));
+    lengths.and(ask_room(room))
 }
 
 // 1, 2 and 4, for a matrix alone.

@@ -85,7 +85,7 @@ pub fn ask_kron_sum<T: Real>(
 ) -> Result<(), Refusal>
     ensures { found result ≡ asked of_kron_sum (binary m n (T.floats a.now) p q (T.floats b.now) (out ∷ []) 0) }
 {
-    ask_square(m, n)?;
-    ask_second_square(p, q)?;
-    ask_kron(m, n, a, p, q, b, out)
+    let squares = ask_square(m, n).and(ask_second_square(p, q));
+    let products = ask_kron(m, n, a, p, q, b, out);
+    squares.and(products)
 }

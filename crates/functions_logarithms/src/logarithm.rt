@@ -31,7 +31,7 @@ fn is_far<T: Real>(w: &[T], n: usize) -> bool
     requires { Room n (T.floats w.now) }
     ensures { result ≡ is_far T.format n (slot n (T.floats w.now) 0) }
 {
-    T::constant(0.1) < norm_1_minus_identity(w, 0, n)
+    T::TENTH < norm_1_minus_identity(w, 0, n)
 }
 
 // The matrix is replaced by its root, unless it is near I.

@@ -1,9 +1,10 @@
 -- `upper_block` meets its contract: each sum is less the last i products of its column. Assumes nothing.
 use Prim.Native.Nat.{ℕ, ◌+◌, ◌-◌, ◌*◌, ◌<◌, ◌≤◌}
 use native.Mathlib.Omega.{arith}
-use mathlib.Core.Path.{sym, ◌∙◌, ap}
+use mathlib.Core.Path.{◌≡◌, sym, ◌∙◌, ap}
 use lib.ListN.{length}
 use Rattle.std.proofs.Common.{rules}
+use Rattle.arithmetic_matrices.specs.Matrix.{item}
 use Rattle.arithmetic_matrices.proofs.MatrixLaws.{length-tab, index_lt, more_rows}
 use Rattle.arithmetic_matrices.proofs.LoopLaws.{stored_start, stored_all}
 use Rattle.arithmetic_matrices.proofs.SeenEntries.{seen_part, seen_stored, seen_stored0}
@@ -57,7 +58,8 @@ loop-t-2-preserved g c =
     let laws = g.met.T.Real in
     let float = g.T.Real.float in
     let sum = c.index-sums-t-in-loop-t-2 in
+    let pivot : float c.index-f-g-2.result ≡ item (g.T.Real.floats c.args.f.now) c.args.g = laws.item_law _ _ _ c.index-f-g-2.is (omega arith) in
     seen_stored float g.T.Real.floats _ _ laws.set_law c.loop-t-2.invariant c.loop-t-2-test.true
     (upper_row_done _ c.loop-i.i _ _ _ _ _ _ _ _ (omega arith) (laws.div_law _ _ _ c.div.ensures)
     (ap float (sym sum.is) ∙ laws.item_law _ _ _ sum.is (search rules) ∙ item_of_tab _ c.loop-t-2.t c.loop-i.invariant c.loop-t-2-test.true)
-    (laws.item_law _ _ _ c.index-f-g-2.is (omega arith)))
+    (search rules))

@@ -27,16 +27,14 @@ pub loop-t-preserved : goal.loop-t-preserved
 loop-t-preserved g c =
     let a = c.args in
     let i = c.loop-i.i in
-    let t = c.loop-t.t in
     let laws = g.met.T.Real in
     let float = g.T.Real.float in
     let last = row_end i a.k a.m c.loop-i-test.true in
-    let place : a.x + (i * a.m + a.j) + t ≡ a.x + (i * a.m + (a.j + t)) = omega arith in
     seen_stored0 float g.T.Real.floats _ _ laws.set_law c.loop-t.invariant c.loop-t-test.true
     (less_added _ _ _ _ (laws.sub_law _ _ _ c.sub.ensures) (laws.mul_law _ _ _ c.mul.ensures)
     (ap float (sym c.index-sums-t.is) ∙ laws.item_law _ _ _ c.index-sums-t.is (search rules) ∙ item_to_replace _ c.loop-t.invariant c.loop-i.invariant c.loop-t-test.true)
     (laws.item_law _ _ _ c.index-w-q.is (omega arith))
-    (laws.item_law _ _ _ c.index-w-r.is (omega arith) ∙ ap (item (g.T.Real.floats a.w.now)) place))
+    (laws.item_law _ _ _ c.index-w-r.is (omega arith) ∙ ap (item (g.T.Real.floats a.w.now)) (omega arith)))
 
 pub loop-i-preserved : goal.loop-i-preserved
 loop-i-preserved g c = stored_all c.loop-t.invariant c.loop-t-test.false (ap length c.loop-i.invariant ∙ length-tab _ _)
